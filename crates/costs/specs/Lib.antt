@@ -1,0 +1,7 @@
+pub mod Choice
+pub mod Cost
+pub mod Step
+pub mod Table
+pub mod Price
+pub mod Packed
+pub mod Laws

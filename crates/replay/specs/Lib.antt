@@ -1,0 +1,7 @@
+pub mod Machine
+pub mod Replay
+pub mod Laws
+pub mod Stack
+pub mod Held
+pub mod Worked
+pub mod Steps
