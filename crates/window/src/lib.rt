@@ -22,6 +22,7 @@ fn put_key(word: u64, s: u32, old: u64, new: u64) -> u64
 }
 
 // What packing answers: the number of a refusal or 0, and the two halves.
+#[repr(C)]
 pub struct Packing {
     pub refusal: u32,
     pub lo: u64,

@@ -1,0 +1,26 @@
+-- The bounded A* search over any costs and any problem: definitions, and what is proved of every run.
+pub mod Cost
+pub mod Order
+pub mod Search
+pub mod Pairs
+pub mod Tests
+pub mod Turns
+pub mod Again
+pub mod Lists
+pub mod Room
+pub mod Fuel
+pub mod Sound
+pub mod Store
+pub mod Hold
+pub mod Walk
+pub mod Back
+pub mod Planner
+pub mod Steady
+pub mod Plans
+pub mod Bag
+pub mod Sorted
+pub mod Places
+pub mod Rows
+pub mod Branch
+pub mod Examples
+pub mod Valid

@@ -1,0 +1,46 @@
+-- Each way of copying is the definition's.
+use Rattle.builders.specs.FillCode.{copy-dup, copy-no-dup, copy-far, copy-up}
+use borrow.Author.Needs.{needs}
+use Rattle.builders.proofs.copy_at.Statement.{statement}
+use Rattle.builders.proofs.copy_at.Tie as tie
+
+cast-t8 : tie.Need-cast-t8
+cast-t8 c = search needs
+
+act-requires : tie.Need-act-requires
+act-requires c κs = search needs
+
+returns : tie.Need-returns
+returns c = copy-dup _ _ _ _ (c .before .before .pre .0) (c .before .before .pre .1) (c .before .before .pre .2) _ (c .before .if1 .taken) (c .act .ensures)
+
+returns-2 : tie.Need-returns-2
+returns-2 c = copy-no-dup _ _ _ _ (c .before .before .pre .0) (c .before .before .pre .1) (c .before .before .pre .2) (c .before .if1 .left) (c .if2 .taken)
+
+returns-3 : tie.Need-returns-3
+returns-3 c = copy-far _ _ _ _ (c .before .before .before .pre .0) (c .before .before .before .pre .1) (c .before .before .before .pre .2) (c .before .before .if1 .left) (c .if3 .taken)
+
+cast-t10 : tie.Need-cast-t10
+cast-t10 c = search needs
+
+act-requires-2 : tie.Need-act-requires-2
+act-requires-2 c κs = search needs
+
+act-requires-3 : tie.Need-act-requires-3
+act-requires-3 c κs = search needs
+
+returns-4 : tie.Need-returns-4
+returns-4 c = copy-up _ _ _ _ (c .before .before .before .before .before .pre .0) (c .before .before .before .before .before .pre .1) (c .before .before .before .before .before .pre .2) _ _ (c .before .before .before .before .if1 .left) (c .before .before .before .if2 .left) (c .before .before .if3 .left) (c .before .act2 .ensures) (c .act3 .ensures)
+
+pub copy-at-spec : {M : Type 1} → statement M
+copy-at-spec =
+    tie.close
+    (tie.spec
+    cast-t8
+    act-requires
+    returns
+    returns-2
+    returns-3
+    cast-t10
+    act-requires-2
+    act-requires-3
+    returns-4)

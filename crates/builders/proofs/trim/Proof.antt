@@ -1,0 +1,59 @@
+-- What is left to trim decides: the loop's invariant.
+use Rattle.star_swap.specs.Check.{Counts}
+use Rattle.builders.specs.TrimCode.{Trimming, trim-first, trim-far, trim-next, trim-last}
+use borrow.Author.Needs.{needs}
+use Rattle.builders.proofs.trim.Statement.{statement}
+use Rattle.builders.proofs.trim.Tie as tie
+
+abbrev Inv-loop : tie.InvT-loop
+Inv-loop goal swap-max wanted w₀ d₀ w d = Trimming w₀ goal swap-max w d × Counts goal wanted
+
+abbrev μ-loop : tie.MeasureT-loop
+μ-loop goal swap-max wanted w₀ d₀ w d = w .stack .len
+
+counts-requires : tie.Need-counts-requires Inv-loop μ-loop
+counts-requires c κs = search needs
+
+surplus-at-requires : tie.Need-surplus-at-requires Inv-loop μ-loop
+surplus-at-requires c κs = search needs
+
+loop-holds : tie.Need-loop-holds Inv-loop μ-loop
+loop-holds c = (trim-first _ _ _ _ _ (c .before .before .before .before .pre .0) (c .before .before .counts .ensures) (c .surplus-at .ensures), c .before .before .counts .ensures)
+
+beyond-requires : tie.Need-beyond-requires Inv-loop μ-loop
+beyond-requires c κs = search needs
+
+returns : tie.Need-returns Inv-loop μ-loop
+returns c = trim-far _ _ _ _ _ (c .before .before .before .before .loop .inv .0) _ (c .before .before .if1 .taken) (c .before .beyond .ensures) (c .if2 .taken)
+
+drop-at-requires : tie.Need-drop-at-requires Inv-loop μ-loop
+drop-at-requires c κs = search needs
+
+surplus-at-requires-2 : tie.Need-surplus-at-requires-2 Inv-loop μ-loop
+surplus-at-requires-2 c κs = search needs
+
+loop-less : tie.Need-loop-less Inv-loop μ-loop
+loop-less c = search needs
+
+loop-again : tie.Need-loop-again Inv-loop μ-loop
+loop-again c = (trim-next _ _ _ _ _ (c .before .before .before .before .before .before .before .loop .inv .0) _ _ _ _ (c .before .before .before .before .before .if1 .taken) (c .before .before .before .before .beyond .ensures) (c .before .before .before .if2 .left) (c .before .before .drop-at .ensures) (c .before .before .before .before .before .before .before .before .before .before .counts .ensures) (c .surplus-at2 .ensures), c .before .before .before .before .before .before .before .loop .inv .1)
+
+returns-2 : tie.Need-returns-2 Inv-loop μ-loop
+returns-2 c = trim-last _ _ _ _ _ (c .before .before .loop .inv .0) (c .if1 .left)
+
+pub trim-spec : {M : Type 1} → statement M
+trim-spec =
+    tie.close
+    (tie.spec
+    Inv-loop
+    μ-loop
+    counts-requires
+    surplus-at-requires
+    loop-holds
+    beyond-requires
+    returns
+    drop-at-requires
+    surplus-at-requires-2
+    loop-less
+    loop-again
+    returns-2)

@@ -1,0 +1,14 @@
+pub mod Draft
+pub mod Tail
+pub mod Dup
+pub mod DraftLaws
+pub mod TailLaws
+pub mod Work
+pub mod TailCode
+pub mod Tests
+pub mod Small
+pub mod DupLaws
+pub mod TrimCode
+pub mod FillCode
+pub mod BuildCode
+pub mod Theorems

@@ -1,0 +1,503 @@
+// The builders: plans made without a search.
+use costs::Step;
+use replay::SearchCfg;
+use replay::stack::Stack;
+use star_swap::Written;
+ghost use mathlib.Core.Path.{_≡_};
+ghost use mathlib.Core.Bool.{_||_, not};
+ghost use mathlib.Core.List.{_++_};
+ghost use Prim.Native.Nat.{_+_, _-_, _<_, _≤_, min};
+ghost use lib.ListN.{length, take, drop};
+ghost use Rattle.replay.specs.Stack.{keysOf};
+ghost use Rattle.replay.specs.Laws.{Ready};
+ghost use Rattle.replay.specs.Machine.{ruled};
+ghost use Rattle.star_swap.specs.StarCode.{Pair};
+ghost use Rattle.builders.specs.Draft.{routed, stepsOf, builtOf};
+ghost use Rattle.builders.specs.Tail.{deleteTail, tailPlan, begins, notTail, tailRefusal, deleted};
+ghost use Rattle.builders.specs.TailLaws.{IsTail};
+ghost use Rattle.costs.specs.Table.{countOf};
+ghost use Rattle.star_swap.specs.Refusal.{unroutable};
+ghost use Rattle.star_swap.specs.Check.{Window, Counts};
+ghost use Rattle.star_swap.specs.Routable.{Small};
+ghost use Rattle.builders.specs.Dup.{firstAt, placeOf, surplusAt, dropAt, within, trimmed, made, added, addedTimes, filled, finished, dupAndStar};
+ghost use Rattle.builders.specs.TrimCode.{triedOf, moreThan, Fit, Dropped, TrimDone};
+ghost use Rattle.builders.specs.FillCode.{Room, Copied, AddDone, TimesDone, FillDone};
+ghost use Rattle.builders.specs.BuildCode.{Gives, completed};
+ghost use Rattle.builders.specs.Work.{draftOf, Begun, Acted, CanBury, Buried, CanPop, Popped, CanRoute, Wrote};
+
+// A plan while it is built: the window that its steps lead to, and the steps so far.
+pub struct Work {
+    pub stack: Stack,
+    pub steps: [u16; 128],
+    pub count: usize,
+}
+
+// A plan while it is built, and whether the builder has come so far.
+pub struct Tried {
+    pub ok: bool,
+    pub work: Work,
+}
+
+// What a builder answers: the number of its steps, or that it has none.
+pub enum Built {
+    Plan(usize),
+    Nothing,
+}
+
+// No step yet.
+fn begin(start: &[u8]) -> Work
+    requires { ⌜ length (now start) ≤ 21 ⌝ }
+    ensures { λ r. ⌜ Begun (now (start .entry)) r ⌝ }
+{
+    Work {
+        stack: replay::load(start),
+        steps: [0; 128],
+        count: 0,
+    }
+}
+
+// One step more.
+fn act(work: Work, step: Step) -> Work
+    requires { ⌜ Ready step (work .stack .len) × (work .count < 128) ⌝ }
+    ensures { λ r. ⌜ Acted step work r ⌝ }
+{
+    let stack = work.stack;
+    let mut steps = work.steps;
+    let n = work.count;
+    steps[n] = costs::code(step);
+    Work {
+        stack: replay::moved(stack, step),
+        steps,
+        count: n + 1,
+    }
+}
+
+// The first n keys of the window, each swapped below the keys to delete, with a Pop for each.
+fn bury_keys(work: Work, n: usize) -> Work
+    requires { ⌜ CanBury work n ⌝ }
+    ensures { λ r. ⌜ Buried work n r ⌝ }
+{
+    let mut w = work;
+    let mut i: usize = 0;
+    while i < n {
+        let stack = w.stack;
+        let d = (stack.len - 1 - i) as u8;
+        w = act(w, Step::Swap(d));
+        w = act(w, Step::Pop);
+        i += 1;
+    }
+    w
+}
+
+fn pop_keys(work: Work, n: usize) -> Work
+    requires { ⌜ CanPop work n ⌝ }
+    ensures { λ r. ⌜ Popped work n r ⌝ }
+{
+    let mut w = work;
+    let mut i: usize = 0;
+    while i < n {
+        w = act(w, Step::Pop);
+        i += 1;
+    }
+    w
+}
+
+// Star-swap's steps behind those so far.
+fn route(work: Work, goal: &[u8]) -> Work
+    requires { ⌜ CanRoute work (now goal) ⌝ }
+    ensures { λ r. ⌜ Wrote r (routed (now (goal .entry)) (draftOf work) .steps) ⌝ }
+{
+    let stack = work.stack;
+    let n = stack.len;
+    let mut cur: [u8; 21] = [0; 21];
+    replay::write(stack, &mut cur);
+    let mut steps = work.steps;
+    let from = work.count;
+    let count = star_swap::star(&cur[0..n], goal, from, &mut steps);
+    Work {
+        stack,
+        steps,
+        count,
+    }
+}
+
+fn lesser(a: usize, b: usize) -> usize
+    ensures { λ r. ⌜ r ≡ min a b ⌝ }
+{
+    if a < b { a } else { b }
+}
+
+// Delete-tail's plan.
+fn tail(start: &[u8], goal: &[u8]) -> Work
+    requires { ⌜ IsTail (length (now start)) (now start) (now goal) ⌝ }
+    ensures { λ r. ⌜ Wrote r (deleteTail (now (start .entry)) (now (goal .entry))) ⌝ }
+{
+    let keep = goal.len();
+    let dead = start.len() - keep;
+    let bury = lesser(keep, dead);
+    let work = pop_keys(bury_keys(begin(start), bury), dead - bury);
+    route(work, goal)
+}
+
+// The first n steps of a plan over the first places of a list, the rest untouched.
+pub fn give(plan: &[u16], n: usize, steps: &mut [u16])
+    requires { ⌜ (n ≤ 65536) × (n ≤ length (now plan)) × (n ≤ length (now steps)) ⌝ }
+    ensures { λ _. ⌜ now (steps .exit) ≡ take n (now (plan .entry)) ++ drop n (now (steps .entry)) ⌝ }
+{
+    let mut i: usize = 0;
+    while i < n {
+        steps[i] = plan[i];
+        i += 1;
+    }
+}
+
+// Whether the goal is the beginning of the start.
+fn begins_with(start: &[u8], goal: &[u8]) -> bool
+    ensures { λ r. ⌜ r ≡ begins (now (goal .entry)) (now (start .entry)) ⌝ }
+{
+    let mut i: usize = 0;
+    while i < goal.len() {
+        if i >= start.len() {
+            return false;
+        }
+        if goal[i] != start[i] {
+            return false;
+        }
+        i += 1;
+    }
+    true
+}
+
+// Refusal 10.
+fn not_tail(start: &[u8], goal: &[u8], swap_max: usize) -> bool
+    ensures { λ r. ⌜ r ≡ notTail «swap_max» (now (start .entry)) (now (goal .entry)) ⌝ }
+{
+    let prefix = begins_with(start, goal);
+    let shorter = goal.len() < start.len();
+    let far = swap_max < start.len();
+    costs::either(!prefix, costs::either(!shorter, far))
+}
+
+// The refusals, the lowest number first.
+fn tail_refusal(start: &[u8], goal: &[u8], swap_max: usize, places: usize) -> u32
+    ensures { λ r. ⌜ r ≡ tailRefusal «swap_max» (now (start .entry)) (now (goal .entry)) places ⌝ }
+{
+    let tail = costs::row(10, not_tail(start, goal, swap_max), 0);
+    star_swap::builder_refusal(start, goal, swap_max, places, tail)
+}
+
+// Delete-tail's steps over the first places of the step list.
+pub fn delete_tail(start: &[u8], goal: &[u8], swap_max: usize, steps: &mut [u16]) -> Written
+    ensures { λ r. ⌜ (r, now (steps .exit)) ≡ deleted «swap_max» (now (start .entry)) (now (goal .entry)) (now (steps .entry)) ⌝ }
+{
+    let n = tail_refusal(start, goal, swap_max, steps.len());
+    if n != 0 {
+        return Written {
+            refusal: n,
+            count: 0,
+        };
+    }
+    let work = tail(start, goal);
+    let plan = work.steps;
+    let count = work.count;
+    give(&plan, count, steps);
+    Written { refusal: 0, count }
+}
+
+// The highest place of the key in the window, or the window's length.
+fn first_of(stack: Stack, key: u8) -> usize
+    requires { ⌜ stack .len ≤ 21 ⌝ }
+    ensures { λ r. ⌜ r ≡ placeOf key (keysOf stack) ⌝ }
+{
+    let n = stack.len;
+    let mut left = n;
+    while left > 0 {
+        let i = n - left;
+        if key == stack.get(i) {
+            return i;
+        }
+        left -= 1;
+    }
+    n
+}
+
+// How often each key stands in the window.
+fn counts_of(stack: Stack) -> [usize; 64]
+    requires { ⌜ stack .len ≤ 21 ⌝ }
+    ensures { λ r. ⌜ Counts (keysOf stack) r ⌝ }
+{
+    let n = stack.len;
+    let mut cur: [u8; 21] = [0; 21];
+    replay::write(stack, &mut cur);
+    star_swap::counts(&cur[0..n])
+}
+
+// The place of the first key of which there are more than `wanted` says, or the window's length.
+fn surplus_at(stack: Stack, wanted: &[usize; 64]) -> usize
+    requires { ⌜ (stack .len ≤ 21) × Small (keysOf stack) ⌝ }
+    ensures { λ r. ⌜ r ≡ firstAt (moreThan (now (wanted .entry)) (keysOf stack)) (keysOf stack) ⌝ }
+{
+    let have = counts_of(stack);
+    let n = stack.len;
+    let mut i: usize = 0;
+    while i < n {
+        let k = stack.get(i) as usize;
+        if wanted[k] < have[k] {
+            return i;
+        }
+        i += 1;
+    }
+    n
+}
+
+// The key at a place swapped up and popped.
+fn drop_at(work: Work, d: usize) -> Work
+    requires { ⌜ Fit work × (d < work .stack .len) ⌝ }
+    ensures { λ r. ⌜ Dropped work d r ⌝ }
+{
+    if d == 0 {
+        return act(work, Step::Pop);
+    }
+    let up = act(work, Step::Swap(d as u8));
+    act(up, Step::Pop)
+}
+
+// Whether the swaps do not reach a place.
+fn beyond(d: usize, swap_max: usize) -> bool
+    ensures { λ r. ⌜ r ≡ not (within «swap_max» d) ⌝ }
+{
+    if d == 0 {
+        return false;
+    }
+    d >= swap_max
+}
+
+// The first surplus key from the top goes, until none is left.
+fn trim(work: Work, goal: &[u8], swap_max: usize) -> Tried
+    requires { ⌜ Fit work × Window (now goal) ⌝ }
+    ensures { λ r. ⌜ TrimDone work (now (goal .entry)) «swap_max» r ⌝ }
+{
+    let wanted = star_swap::counts(goal);
+    let mut w = work;
+    let mut d = surplus_at(w.stack, &wanted);
+    while d < w.stack.len {
+        let far = beyond(d, swap_max);
+        if far {
+            return Tried { ok: false, work: w };
+        }
+        w = drop_at(w, d);
+        d = surplus_at(w.stack, &wanted);
+    }
+    Tried { ok: true, work: w }
+}
+
+// The step that makes a key.
+fn made_step(kinds: &[u8], key: u8) -> Step
+    requires { ⌜ length (now kinds) ≡ 64 ⌝ }
+    ensures { λ r. ⌜ r ≡ made (now (kinds .entry)) key ⌝ }
+{
+    if replay::is_immediate(kinds, key as usize) {
+        Step::PushImm(key)
+    } else {
+        Step::LoadVal(key)
+    }
+}
+
+// A copy of the key at a place.
+fn copy_at(work: Work, d: usize, dup_max: usize, swap_max: usize) -> Tried
+    requires { ⌜ Room work × (d < work .stack .len) × (work .stack .len < 21) ⌝ }
+    ensures { λ r. ⌜ Copied «dup_max» «swap_max» d work r ⌝ }
+{
+    if d < dup_max {
+        return Tried {
+            ok: true,
+            work: act(work, Step::Dup(d as u8)),
+        };
+    }
+    if dup_max == 0 {
+        return Tried { ok: false, work };
+    }
+    if d >= swap_max {
+        return Tried { ok: false, work };
+    }
+    let up = act(work, Step::Swap(d as u8));
+    Tried {
+        ok: true,
+        work: act(up, Step::Dup(0)),
+    }
+}
+
+// One key more: a copy from the highest place, or the key made.
+fn add_key(work: Work, key: u8, cfg: SearchCfg, kinds: &[u8]) -> Tried
+    requires { ⌜ Room work × (key < 64) × (cfg .«max_len» ≤ 21) × (length (now kinds) ≡ 64) ⌝ }
+    ensures { λ r. ⌜ AddDone (ruled cfg (now (kinds .entry))) key work r ⌝ }
+{
+    let stack = work.stack;
+    let n = stack.len;
+    if n >= cfg.max_len {
+        return Tried { ok: false, work };
+    }
+    let d = first_of(stack, key);
+    if d == n {
+        let step = made_step(kinds, key);
+        return Tried {
+            ok: true,
+            work: act(work, step),
+        };
+    }
+    copy_at(work, d, cfg.dup_max, cfg.swap_max)
+}
+
+// So many keys more.
+fn add_times(work: Work, n: usize, key: u8, cfg: SearchCfg, kinds: &[u8]) -> Tried
+    requires { ⌜ Room work × (key < 64) × (cfg .«max_len» ≤ 21) × (length (now kinds) ≡ 64) ⌝ }
+    ensures { λ r. ⌜ TimesDone n (ruled cfg (now (kinds .entry))) key work r ⌝ }
+{
+    let mut w = work;
+    let mut i: usize = 0;
+    while i < n {
+        let a = add_key(w, key, cfg, kinds);
+        w = a.work;
+        if a.ok {
+            i += 1;
+        } else {
+            return Tried { ok: false, work: w };
+        }
+    }
+    Tried { ok: true, work: w }
+}
+
+// How often the key stands in the window.
+fn count_key(stack: Stack, key: u8) -> usize
+    requires { ⌜ stack .len ≤ 21 ⌝ }
+    ensures { λ r. ⌜ r ≡ countOf key (keysOf stack) ⌝ }
+{
+    let n = stack.len;
+    let mut cur: [u8; 21] = [0; 21];
+    replay::write(stack, &mut cur);
+    costs::count_of(&cur[0..n], key)
+}
+
+// How many of a key are missing.
+fn missing(stack: Stack, key: u8, want: usize) -> usize
+    requires { ⌜ stack .len ≤ 21 ⌝ }
+    ensures { λ r. ⌜ r ≡ want - countOf key (keysOf stack) ⌝ }
+{
+    if want == 0 {
+        return 0;
+    }
+    let have = count_key(stack, key);
+    if have < want { want - have } else { 0 }
+}
+
+// The missing keys in rising order.
+fn fill(work: Work, goal: &[u8], cfg: SearchCfg, kinds: &[u8]) -> Tried
+    requires { ⌜ Room work × Window (now goal) × (cfg .«max_len» ≤ 21) × (length (now kinds) ≡ 64) ⌝ }
+    ensures { λ r. ⌜ FillDone (ruled cfg (now (kinds .entry))) (now (goal .entry)) work r ⌝ }
+{
+    let wanted = star_swap::counts(goal);
+    let mut w = work;
+    let mut key: u8 = 0;
+    while key < 64 {
+        let want = wanted[key as usize];
+        let n = missing(w.stack, key, want);
+        let a = add_times(w, n, key, cfg, kinds);
+        w = a.work;
+        if a.ok {
+            key += 1;
+        } else {
+            return Tried { ok: false, work: w };
+        }
+    }
+    Tried { ok: true, work: w }
+}
+
+// Whether star-swap refuses the window.
+fn cannot_route(stack: Stack, goal: &[u8], swap_max: usize) -> bool
+    requires { ⌜ stack .len ≤ 21 ⌝ }
+    ensures { λ r. ⌜ r ≡ unroutable «swap_max» (keysOf stack) (now (goal .entry)) ⌝ }
+{
+    let n = stack.len;
+    let mut cur: [u8; 21] = [0; 21];
+    replay::write(stack, &mut cur);
+    star_swap::not_routable(&cur[0..n], goal, swap_max)
+}
+
+// Star-swap finishes, or refuses.
+fn finish(work: Work, goal: &[u8], swap_max: usize) -> Tried
+    requires { ⌜ Room work × Window (now goal) ⌝ }
+    ensures { λ r. ⌜ Gives (stepsOf (finished «swap_max» (now (goal .entry)) (draftOf work))) r ⌝ }
+{
+    let none = cannot_route(work.stack, goal, swap_max);
+    if none {
+        return Tried { ok: false, work };
+    }
+    Tried {
+        ok: true,
+        work: route(work, goal),
+    }
+}
+
+// The missing keys, then star-swap.
+fn complete(work: Work, goal: &[u8], cfg: SearchCfg, kinds: &[u8]) -> Tried
+    requires { ⌜ Room work × Window (now goal) × (cfg .«max_len» ≤ 21) × (length (now kinds) ≡ 64) ⌝ }
+    ensures { λ r. ⌜ Gives (stepsOf (completed (ruled cfg (now (kinds .entry))) (now (goal .entry)) (draftOf work))) r ⌝ }
+{
+    let a = fill(work, goal, cfg, kinds);
+    let w = a.work;
+    if a.ok {
+        return finish(w, goal, cfg.swap_max);
+    }
+    Tried { ok: false, work: w }
+}
+
+// Dup-and-star's plan.
+fn build(start: &[u8], goal: &[u8], cfg: SearchCfg, kinds: &[u8]) -> Tried
+    requires { ⌜ Window (now start) × Window (now goal) × (cfg .«max_len» ≤ 21) × (length (now kinds) ≡ 64) ⌝ }
+    ensures { λ r. ⌜ Gives (stepsOf (dupAndStar (ruled cfg (now (kinds .entry))) (now (start .entry)) (now (goal .entry)))) r ⌝ }
+{
+    let a = trim(begin(start), goal, cfg.swap_max);
+    let w = a.work;
+    if a.ok {
+        return complete(w, goal, cfg, kinds);
+    }
+    Tried { ok: false, work: w }
+}
+
+// Dup-and-star: its steps over the first places of the step list, or none.
+pub fn dup_and_star(
+    start: &[u8],
+    goal: &[u8],
+    cfg: SearchCfg,
+    kinds: &[u8],
+    steps: &mut [u16],
+) -> Built
+    requires { ⌜ Window (now start) × Window (now goal) × (cfg .«max_len» ≤ 21) × (length (now kinds) ≡ 64) × (128 ≤ length (now steps)) ⌝ }
+    ensures { λ r. ⌜ (r, now (steps .exit)) ≡ builtOf (stepsOf (dupAndStar (ruled cfg (now (kinds .entry))) (now (start .entry)) (now (goal .entry)))) (now (steps .entry)) ⌝ }
+{
+    let a = build(start, goal, cfg, kinds);
+    let work = a.work;
+    if a.ok {
+        let plan = work.steps;
+        let count = work.count;
+        give(&plan, count, steps);
+        return Built::Plan(count);
+    }
+    Built::Nothing
+}
+
+// Delete-tail as a builder of a window that the planner has accepted.
+pub fn tail_plan(start: &[u8], goal: &[u8], swap_max: usize, steps: &mut [u16]) -> Built
+    requires { ⌜ Window (now start) × Window (now goal) × (128 ≤ length (now steps)) ⌝ }
+    ensures { λ r. ⌜ (r, now (steps .exit)) ≡ builtOf (tailPlan «swap_max» (now (start .entry)) (now (goal .entry))) (now (steps .entry)) ⌝ }
+{
+    let none = not_tail(start, goal, swap_max);
+    if none {
+        return Built::Nothing;
+    }
+    let work = tail(start, goal);
+    let plan = work.steps;
+    let count = work.count;
+    give(&plan, count, steps);
+    Built::Plan(count)
+}

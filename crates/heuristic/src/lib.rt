@@ -1,0 +1,186 @@
+// The heuristic of the search: what is left to pop, to copy and to materialize, key by key.
+use costs::Cost;
+use costs::Decoded;
+use costs::Step;
+use window::PackedState;
+ghost use mathlib.Core.Path.{_≡_};
+ghost use mathlib.Core.List.{List, [], _∷_};
+ghost use Prim.Native.Nat.{ℕ, _+_, _-_, _<_, _≤_, min};
+ghost use lib.ListN.{length, getD, set};
+ghost use Rattle.costs.specs.declared.Step.{Step};
+ghost use Rattle.window.specs.Keys.{keysOf, Window};
+ghost use Rattle.heuristic.specs.Heuristic.{times, gasOf, leastDup, term, sumTo, keyTerm, heuristicOf};
+ghost use Rattle.heuristic.specs.Counts.{Counted, KeysFit, countTerm, tableTerm};
+ghost use Rattle.heuristic.specs.Steady.{Standing};
+
+// A number of a table of keys.
+pub fn at(table: &[u8], key: u8) -> u8
+    requires { ⌜ key < length (now table) ⌝ }
+    ensures { λ r. ⌜ r ≡ getD (now (table .entry)) key 0 ⌝ }
+{
+    let k = key as usize;
+    table[k]
+}
+
+// One more of a key.
+fn more(table: &mut [u8], key: u8)
+    requires { ⌜ (key < length (now table)) × (getD (now table) key 0 < 255) ⌝ }
+    ensures { λ r. ⌜ now (table .exit) ≡ set (now (table .entry)) key (getD (now (table .entry)) key 0 + 1) ⌝ }
+{
+    let k = key as usize;
+    table[k] = table[k] + 1;
+}
+
+// The counts of a list of keys, into a table of zeros.
+pub fn count_list(list: &[u8], table: &mut [u8])
+    requires { ⌜ KeysFit (now list) × (length (now list) ≤ 21) × Counted (now table) [] ⌝ }
+    ensures { λ r. ⌜ Counted (now (table .exit)) (now (list .entry)) ⌝ }
+{
+    let mut i = list.len();
+    while 0 < i {
+        i -= 1;
+        more(table, list[i]);
+    }
+}
+
+// The counts of a window, into a table of zeros.
+pub fn count_window(state: PackedState, table: &mut [u8])
+    requires { ⌜ Window state × Counted (now table) [] ⌝ }
+    ensures { λ r. ⌜ Counted (now (table .exit)) (keysOf state) ⌝ }
+{
+    let mut i = state.len();
+    while 0 < i {
+        i -= 1;
+        more(table, state.get(i));
+    }
+}
+
+// The product of two numbers, or the greatest u32.
+fn saturating_mul(a: u32, b: u32) -> u32
+    ensures { λ r. ⌜ r ≡ times a b ⌝ }
+{
+    let p = (a as u64) * (b as u64);
+    if p <= 4294967295 {
+        p as u32
+    } else {
+        4294967295
+    }
+}
+
+fn lesser(a: u32, b: u32) -> u32
+    ensures { λ r. ⌜ r ≡ min a b ⌝ }
+{
+    if a < b { a } else { b }
+}
+
+// The gas of a step.
+fn gas_of(prices: &[u32], step: Step) -> u32
+    ensures { λ r. ⌜ r ≡ gasOf (now (prices .entry)) step ⌝ }
+{
+    let cost = costs::price_of(prices, Decoded::Known(step));
+    cost.gas
+}
+
+// The least gas of a Dup.
+pub fn least_dup(prices: &[u32], dup_max: usize) -> u32
+    requires { ⌜ «dup_max» ≤ 16 ⌝ }
+    ensures { λ r. ⌜ r ≡ leastDup (now (prices .entry)) «dup_max» ⌝ }
+{
+    let mut best = 4294967295;
+    let mut p = 0;
+    while p < dup_max {
+        best = lesser(best, gas_of(prices, Step::Dup(p as u8)));
+        p += 1;
+    }
+    best
+}
+
+// What a key adds that is there so often and wanted so often.
+fn key_term(pop: u32, dup: u32, mat: u32, have: u8, want: u8) -> u32
+    ensures { λ r. ⌜ r ≡ term pop dup mat have want ⌝ }
+{
+    if want < have {
+        return saturating_mul(pop, (have - want) as u32);
+    }
+    if have == want {
+        return 0;
+    }
+    let per = lesser(mat, dup);
+    if have == 0 {
+        return costs::saturating_add(mat, saturating_mul(per, (want - 1) as u32));
+    }
+    saturating_mul(per, (want - have) as u32)
+}
+
+// What a key adds with so many copies there.
+fn count_term(want: &[u8], dup: u32, prices: &[u32], key: u8, count: u8) -> u32
+    requires { ⌜ key < length (now want) ⌝ }
+    ensures { λ r. ⌜ r ≡ countTerm (now (prices .entry)) dup (now (want .entry)) key count ⌝ }
+{
+    let w = at(want, key);
+    if count == w {
+        return 0;
+    }
+    let pop = gas_of(prices, Step::Pop);
+    let mat = gas_of(prices, Step::PushImm(key));
+    key_term(pop, dup, mat, count, w)
+}
+
+// What all keys add, by the tables of counts.
+pub fn sum_of(have: &[u8], want: &[u8], dup: u32, prices: &[u32]) -> u32
+    requires { ⌜ (length (now have) ≡ 64) × (length (now want) ≡ 64) ⌝ }
+    ensures { λ r. ⌜ r ≡ sumTo (tableTerm (now (prices .entry)) dup (now (have .entry)) (now (want .entry))) 64 ⌝ }
+{
+    let mut sum = 0;
+    let mut k: u8 = 0;
+    while k < 64 {
+        let count = at(have, k);
+        sum = costs::saturating_add(sum, count_term(want, dup, prices, k, count));
+        k += 1;
+    }
+    sum
+}
+
+// The heuristic of a window.
+pub fn heuristic(state: PackedState, goal: &[u8], dup_max: usize, prices: &[u32]) -> Cost
+    requires { ⌜ Window state × KeysFit (now goal) × (length (now goal) ≤ 21) × («dup_max» ≤ 16) ⌝ }
+    ensures { λ r. ⌜ r ≡ heuristicOf (now (prices .entry)) «dup_max» (now (goal .entry)) (keysOf state) ⌝ }
+{
+    let mut have = [0u8; 64];
+    count_window(state, &mut have);
+    let mut want = [0u8; 64];
+    count_list(goal, &mut want);
+    let dup = least_dup(prices, dup_max);
+    Cost {
+        gas: sum_of(&have, &want, dup, prices),
+        bytes: 0,
+    }
+}
+
+// An estimate with the copies of one key changed from old to new.
+fn shifted(h: u32, want: &[u8], dup: u32, prices: &[u32], key: u8, old: u8, new: u8) -> u32
+    requires { ⌜ (key < length (now want)) × (countTerm (now prices) dup (now want) key old ≤ h) × (h + countTerm (now prices) dup (now want) key new ≤ 4294967295) ⌝ }
+    ensures { λ r. ⌜ r + countTerm (now (prices .entry)) dup (now (want .entry)) key old ≡ h + countTerm (now (prices .entry)) dup (now (want .entry)) key new ⌝ }
+{
+    let a = count_term(want, dup, prices, key, old);
+    let b = count_term(want, dup, prices, key, new);
+    h - a + b
+}
+
+// The estimate of a window with one key more, from the window's estimate and counts.
+pub fn after_push(h: u32, have: &[u8], want: &[u8], dup: u32, prices: &[u32], key: u8) -> u32
+    requires { ⌜ (key < 64) × ((w : List ℕ) × ((goal : List ℕ) × Standing (now prices) dup h (now have) (now want) w goal × (length w + length goal < 42))) ⌝ }
+    ensures { λ r. ⌜ ((w : List ℕ) → (goal : List ℕ) → Standing (now (prices .entry)) dup h (now (have .entry)) (now (want .entry)) w goal → length w + length goal < 42 → r ≡ sumTo (keyTerm (now (prices .entry)) dup goal (key ∷ w)) 64) ⌝ }
+{
+    let old = at(have, key);
+    shifted(h, want, dup, prices, key, old, old + 1)
+}
+
+// The estimate of a window without its top key, from the window's estimate and counts.
+pub fn after_pop(h: u32, have: &[u8], want: &[u8], dup: u32, prices: &[u32], key: u8) -> u32
+    requires { ⌜ (key < 64) × ((w : List ℕ) × ((goal : List ℕ) × Standing (now prices) dup h (now have) (now want) (key ∷ w) goal)) ⌝ }
+    ensures { λ r. ⌜ ((w : List ℕ) → (goal : List ℕ) → Standing (now (prices .entry)) dup h (now (have .entry)) (now (want .entry)) (key ∷ w) goal → r ≡ sumTo (keyTerm (now (prices .entry)) dup goal w) 64) ⌝ }
+{
+    let old = at(have, key);
+    shifted(h, want, dup, prices, key, old, old - 1)
+}

@@ -1,0 +1,129 @@
+-- Laws that the code of a move goes by, one for each kind of step.
+use Prim.Native.Nat.{ℕ, zero, suc, _+_, _*_, _/_, _%_, _≤_, _<_}
+use mathlib.Core.Path.{_≡_, refl, sym, ap, _∙_, subst}
+use mathlib.Core.List.{List, [], _∷_}
+use native.Mathlib.Omega.{arith}
+use lib.ListN.{length, getD, length-drop, length-set}
+use Rattle.costs.specs.declared.Cost.{Cost}
+use Rattle.costs.specs.declared.Step.{Step}
+use Rattle.costs.specs.declared.Step.the-variants.{Pop, Dup, Swap, PushImm, LoadVal}
+use Rattle.costs.specs.Packed.{costOf}
+use Rattle.costs.specs.Price.{pairAt}
+use Rattle.costs.specs.Step.{codeOf, pairOf}
+use Rattle.replay.specs.Machine.{after}
+use Rattle.window.specs.declared.PackedState.{PackedState}
+use Rattle.window.specs.Pack.{Keys, pack}
+use Rattle.window.specs.State.{Held, whole, swapped}
+use Rattle.window.specs.Keys.{keysOf, Window, keys-length}
+use Rattle.successors.specs.Successors.{priceBy}
+use Rattle.heuristic.specs.Heuristic.{leastDup, estimate, heuristicOf, sumTo, keyTerm}
+use Rattle.heuristic.specs.Counts.{Counted, tableTerm, table-sum}
+use Rattle.heuristic.specs.Steady.{Cheap, Standing, same-counts, count-swapped}
+use Rattle.moves.specs.declared.Move.{Move}
+use Rattle.moves.specs.Moves.{Doable, Parent, stateOf, Formed, Leads, Told}
+use Rattle.moves.specs.Codes.{code-pop, code-dup, code-swap}
+
+-- the estimate of a window as a cost
+pub cost-is : (prices : List ℕ) (dup dupMax : ℕ) (goal u : List ℕ) (x : ℕ) → dup ≡ leastDup prices dupMax → x ≡ sumTo (keyTerm prices dup goal u) 64 → _≡_ {A = Cost} (record { gas = x; bytes = 0 }) (heuristicOf prices dupMax goal u)
+unfolding heuristicOf estimate
+cost-is prices dup dupMax goal u x e h = rw (← e, ← h)
+
+-- a move formed to a state that holds the window u
+pub leads-by : (prices : List ℕ) (dup dupMax : ℕ) (goal u : List ℕ) (state : PackedState) (pair gas code : ℕ) (r : Move) → dup ≡ leastDup prices dupMax → Held 6 state u → length u ≤ 21 → gas ≡ sumTo (keyTerm prices dup goal u) 64 → Formed prices state pair gas code r → Leads prices dupMax goal u pair code r
+leads-by prices dup dupMax goal u state pair gas code r e h l g f =
+    record {
+      window = ap whole (f .state-is) ∙ h .value;
+      keys = h .keys;
+      fits = l;
+      price = f .price;
+      est = f .est ∙ cost-is prices dup dupMax goal u gas e g;
+      step = f .step;
+    }
+
+-- a window with a key is its top key and the rest
+pub top-and-rest : (w : List ℕ) → 0 < length w → w ≡ getD w 0 0 ∷ after Pop w
+unfolding after
+top-and-rest [] l = absurd (omega arith)
+top-and-rest (k ∷ w) l = refl
+
+pub rest-fits : (state : PackedState) → length (after Pop (keysOf state)) ≤ 21
+unfolding after
+rest-fits state = omega (arith, length-drop 1 (keysOf state), keys-length state)
+
+pub swap-fits : (state : PackedState) (d : ℕ) → length (swapped (keysOf state) d) ≤ 21
+swap-fits state d = simp length-set (keys-length state)
+
+-- a Swap changes no estimate
+pub swap-sum : (prices : List ℕ) (dup h : ℕ) (have want w goal : List ℕ) (d : ℕ) → Standing prices dup h have want w goal → 0 < d → d < length w → h ≡ sumTo (keyTerm prices dup goal (swapped w d)) 64
+swap-sum prices dup h have want w goal d s p l = s .sum ∙ sym (same-counts prices (s .prices-cheap) dup goal (swapped w d) w (λ k. count-swapped k w d p l))
+
+pub top-is : (w : List ℕ) (key : ℕ) → 0 < length w → key ≡ getD w 0 0 → w ≡ key ∷ after Pop w
+top-is w key l e = top-and-rest w l ∙ ap (λ (x : ℕ). x ∷ after Pop w) (sym e)
+
+module _ (prices : List ℕ) (dup h : ℕ) (have want : List ℕ) (state : PackedState) where
+  pub standing-top : (goal : List ℕ) (dupMax key : ℕ) → Parent prices dup h have want state goal dupMax → 0 < length (keysOf state) → key ≡ getD (keysOf state) 0 0 → Standing prices dup h have want (key ∷ after Pop (keysOf state)) goal
+  standing-top goal dupMax key p l e = subst (λ (v : List ℕ). Standing prices dup h have want v goal) (top-is (keysOf state) key l e) (p .standing)
+
+  pub held-top : (goal : List ℕ) (dupMax key : ℕ) → Parent prices dup h have want state goal dupMax → 0 < length (keysOf state) → key ≡ getD (keysOf state) 0 0 → Held 6 state (key ∷ after Pop (keysOf state))
+  held-top goal dupMax key p l e = subst (λ (v : List ℕ). Held 6 state v) (top-is (keysOf state) key l e) (p .window)
+
+  -- the three kinds of window after a step
+  module _ (goal : List ℕ) (dupMax : ℕ) (p : Parent prices dup h have want state goal dupMax) (next : PackedState) (gas : ℕ) (r : Move) where
+    pub pop-leads : (key : ℕ) → 0 < length (keysOf state) → key ≡ getD (keysOf state) 0 0 → ((v g : List ℕ) → Standing prices dup h have want (key ∷ v) g → gas ≡ sumTo (keyTerm prices dup g v) 64) → ((k : ℕ) → (xs : List ℕ) → Held 6 state (k ∷ xs) → Held 6 next xs) → Formed prices next 0 gas 0 r → Leads prices dupMax goal (after Pop (keysOf state)) 0 0 r
+    pop-leads key l e g f m =
+        leads-by prices dup dupMax goal (after Pop (keysOf state)) next 0 gas 0 r (p .least) (f key (after Pop (keysOf state)) (held-top goal dupMax key p l e)) (rest-fits state)
+        (g (after Pop (keysOf state)) goal (standing-top goal dupMax key p l e)) m
+
+    pub push-leads : (key pair code : ℕ) → length (keysOf state) < 21 → ((v g : List ℕ) → Standing prices dup h have want v g → length v + length g < 42 → gas ≡ sumTo (keyTerm prices dup g (key ∷ v)) 64) → ((xs : List ℕ) → Held 6 state xs → Held 6 next (key ∷ xs)) → Formed prices next pair gas code r → Leads prices dupMax goal (key ∷ keysOf state) pair code r
+    push-leads key pair code l g f m =
+        leads-by prices dup dupMax goal (key ∷ keysOf state) next pair gas code r (p .least) (f (keysOf state) (p .window)) (omega arith)
+        (g (keysOf state) goal (p .standing) (omega (arith, p .short))) m
+
+    pub swap-leads : (d code : ℕ) → gas ≡ h → 0 < d → d < length (keysOf state) → ((xs : List ℕ) → Held 6 state xs → d < length xs → Held 6 next (swapped xs d)) → Formed prices next (17 + d) gas code r → Leads prices dupMax goal (swapped (keysOf state) d) (17 + d) code r
+    swap-leads d code q z l f m =
+        leads-by prices dup dupMax goal (swapped (keysOf state) d) next (17 + d) gas code r (p .least) (f (keysOf state) (p .window) l) (swap-fits state d)
+        (q ∙ swap-sum prices dup h have want (keysOf state) goal d (p .standing) z l) m
+
+-- the counts and the estimate made from scratch
+pub parent-is : (prices : List ℕ) (dup h : ℕ) (have want : List ℕ) (state : PackedState) (goal : List ℕ) (dupMax : ℕ) → Window state → Counted have (keysOf state) → h ≡ sumTo (tableTerm prices dup have want) 64 → Cheap prices → Counted want goal → length goal ≤ 21 → dup ≡ leastDup prices dupMax → Parent prices dup h have want state goal dupMax
+parent-is prices dup h have want state goal dupMax v a e ch b l m =
+    record {
+      window = v;
+      standing = record { prices-cheap = ch; counted = a; wanted = b; sum = e ∙ table-sum prices dup have want (keysOf state) goal a b; size = omega (arith, keys-length state) };
+      short = l;
+      least = m;
+    }
+
+-- ---- what is told of a step, by what its code led to
+
+module _ (prices : List ℕ) (dupMax : ℕ) (goal w : List ℕ) (r : Move) where
+  leads-as : (u v : List ℕ) (p q a b : ℕ) → u ≡ v → p ≡ q → a ≡ b → Leads prices dupMax goal u p a r → Leads prices dupMax goal v q b r
+  leads-as u v p q a b e f g l = rw (← e, ← f, ← g) l
+
+  told-of : (s : Step) → Leads prices dupMax goal (after s w) (pairOf s) (codeOf s) r → Told prices dupMax goal w s r
+  unfolding priceBy
+  told-of s l = record { window = l .window; keys = l .keys; fits = l .fits; price = l .price; est = l .est; step = l .step }
+
+  module _ (c : ℕ) (small : length w ≤ 21) (s : Step) (e : c ≡ codeOf s) (d : Doable s (length w)) where
+    pub told-pop : c / 256 ≡ 0 → Leads prices dupMax goal (after Pop w) 0 0 r → Told prices dupMax goal w s r
+    told-pop k l = subst (λ (t : Step). Told prices dupMax goal w t r) (sym (code-pop (length w) c small s e d k)) (told-of Pop l)
+
+    pub told-dup : (key place : ℕ) → c / 256 ≡ 1 → place ≡ c % 256 → key ≡ getD w place 0 → Leads prices dupMax goal (key ∷ w) (1 + place) c r → Told prices dupMax goal w s r
+    unfolding after
+    told-dup key place k p y l =
+        let z : s ≡ Dup place = code-dup (length w) c small s e d k ∙ ap Dup (sym p) in
+        subst (λ (t : Step). Told prices dupMax goal w t r) (sym z) (told-of (Dup place) (leads-as (key ∷ w) (getD w place 0 ∷ w) (1 + place) (1 + place) c (256 + place) (ap (λ (x : ℕ). x ∷ w) y) refl (e ∙ ap codeOf z) l))
+
+    pub told-swap : (depth : ℕ) → c / 256 ≡ 2 → depth ≡ c % 256 → Leads prices dupMax goal (swapped w depth) (17 + depth) c r → Told prices dupMax goal w s r
+    unfolding after
+    told-swap depth k p l =
+        let z : s ≡ Swap depth = code-swap (length w) c small s e d k ∙ ap Swap (sym p) in
+        subst (λ (t : Step). Told prices dupMax goal w t r) (sym z) (told-of (Swap depth) (leads-as (swapped w depth) (swapped w depth) (17 + depth) (17 + depth) c (512 + depth) refl refl (e ∙ ap codeOf z) l))
+
+  pub told-push : (c key : ℕ) (s : Step) → length w ≤ 21 → c ≡ codeOf s → Doable s (length w) → ¬ (c / 256 ≡ 0) → ¬ (c / 256 ≡ 1) → ¬ (c / 256 ≡ 2) → key ≡ c % 256 → Leads prices dupMax goal (key ∷ w) (34 + key) c r → Told prices dupMax goal w s r
+  unfolding after
+  told-push c key Pop m e d x y z k l = absurd (x (omega arith))
+  told-push c key (Dup p) m e d x y z k l = absurd (y (omega (arith, d .0)))
+  told-push c key (Swap p) m e d x y z k l = absurd (z (omega (arith, d .1)))
+  told-push c key (PushImm p) m e d x y z k l = let q : key ≡ p = omega (arith, d .0) in told-of (PushImm p) (leads-as (key ∷ w) (p ∷ w) (34 + key) (34 + p) c (768 + p) (ap (λ (x : ℕ). x ∷ w) q) (ap (λ (x : ℕ). 34 + x) q) e l)
+  told-push c key (LoadVal p) m e d x y z k l = let q : key ≡ p = omega (arith, d .0) in told-of (LoadVal p) (leads-as (key ∷ w) (p ∷ w) (34 + key) (34 + p) c (1024 + p) (ap (λ (x : ℕ). x ∷ w) q) (ap (λ (x : ℕ). 34 + x) q) e l)

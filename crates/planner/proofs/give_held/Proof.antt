@@ -1,0 +1,28 @@
+-- Nothing at origin 0; else the builders' steps are copied.
+use borrow.Author.Needs.{needs}
+use Rattle.planner.specs.Cases.{gives-none, gives-plan}
+use native.Mathlib.Omega.{arith}
+use Rattle.planner.proofs.give_held.Statement.{statement}
+use Rattle.planner.proofs.give_held.Tie as tie
+
+nothing-requires : tie.Need-nothing-requires
+nothing-requires c κs = search needs
+
+returns : tie.Need-returns
+returns c =
+    let a = c .before .before .before .before .before .args in
+    gives-none (a .hand) (a .held .now) (a .steps .now) (a .ending) (a .expansions) (c .nothing .result) (c .before .if1 .taken) (c .nothing .ensures)
+
+give-requires : tie.Need-give-requires
+give-requires c κs = search needs
+
+same-length : tie.Need-same-length
+same-length c = search needs
+
+returns-2 : tie.Need-returns-2
+returns-2 c =
+    let a = c .before .before .before .before .before .before .before .before .args in
+    gives-plan (a .hand) (a .held .now) (a .steps .now) _ (a .ending) (a .expansions) (c .before .before .before .before .if1 .left) (omega arith) (c .before .before .give .ensures)
+
+pub give-held-spec : {M : Type 1} → statement M
+give-held-spec = tie.close (tie.spec nothing-requires returns give-requires same-length returns-2)

@@ -1,0 +1,162 @@
+-- The search's plan, or the builders' where it has none.
+use Prim.Native.Nat.{ℕ, _≤_, max}
+use lib.Dec.{eqb}
+use mathlib.Core.Bool.{Bool, true, false, not}
+use mathlib.Core.Option.{Option}
+use mathlib.Core.List.{List}
+use mathlib.Core.Path.{_≡_, refl, ap, sym, _∙_}
+use native.Mathlib.Omega.{arith}
+use lib.ListN.{length}
+use Rattle.replay.specs.Machine.{ruled}
+use Rattle.algebra.specs.GasBytes.{gas-bytes}
+use Rattle.astar.specs.Planner.{Answer as Answered, Found, given as isGiven, searched}
+use Rattle.successors.specs.Whole.{asked as sought}
+use Rattle.problem.specs.Problem.{problemOf}
+use Rattle.run.specs.View.{allowance}
+use Rattle.run.specs.declared.Limits.{Limits}
+use Rattle.incumbent.specs.Hand.{heldOf}
+use Rattle.planner.specs.Planned.{listed, planHeld}
+use Rattle.costs.specs.declared.Cost.{Cost}
+use Rattle.planner.specs.declared.Answer.{Answer}
+use Rattle.planner.specs.Refusal.{Asked, Lent, asked, allowances, lent}
+use Rattle.planner.specs.Accepted.{Accepted, accepted, search-question, search-start, search-room}
+use Rattle.planner.specs.Cases.{given, foundBySearch, held-given, searched-found, searched-lost, nothing-written}
+use borrow.Author.Needs.{needs}
+use Rattle.planner.proofs.with_search.Statement.{statement}
+use Rattle.planner.proofs.with_search.Tie as tie
+
+-- the question, and the lists lent
+questionAt : tie.Start → Asked
+questionAt s =
+    let a = s .args in
+    asked (ruled (a .cfg) (a .kinds .now)) (a .prices .now) (a .start .now) (a .goal .now) (allowances (a .a .«max_expansions») (a .a .«states_without») (a .a .«states_with»))
+
+lentAt : tie.Start → Lent
+lentAt s = let a = s .args in lent (length (a .steps .now)) (length (a .nodes .now)) (length (a .heads .now)) (length (a .list .now))
+
+okAt : (s : tie.Start) → Accepted (questionAt s) (lentAt s)
+unfolding questionAt lentAt
+okAt s = accepted (questionAt s) (lentAt s) (s .pre .0)
+
+search-from-requires : tie.Need-search-from-requires
+unfolding questionAt lentAt
+search-from-requires c κs =
+    let s = c .before .before .before .before .before .before .before .before .before .before .before .before .before .before in
+    let a = s .args in
+    let ok = okAt s in (
+      omega (arith, ok .heads),
+      (
+        search-room (questionAt s) _ (a .nodes .now) (a .list .now) (lentAt s) refl refl refl ok,
+        (
+          search-question (questionAt s) (a .cfg) (a .kinds .now) refl (lentAt s) ok,
+          (search-start (questionAt s) (a .cfg) (a .kinds .now) refl (lentAt s) ok, (omega (arith, ok .steps), ok .expansions)),
+        ),
+      ),
+    )
+
+-- what the search came to, and its step list
+limitsAt : tie.Start → Limits
+limitsAt s = let a = s .args in record { most = a .a .«max_expansions»; plain = a .a .«states_without»; held = a .a .«states_with» }
+
+heldAt : tie.Start → Option (Found Cost ℕ)
+heldAt s = planHeld (heldOf (s .args .hand) (s .args .held .now))
+
+haveAt : tie.Start → Bool
+haveAt s = not (eqb (s .args .hand .origin) 0)
+
+foundAt : tie.Start → Answered Cost ℕ
+unfolding limitsAt heldAt
+foundAt s =
+    let a = s .args in
+    searched gas-bytes (problemOf (sought (a .cfg) (a .kinds .now) (a .prices .now) (a .goal .now)) (a .start .now)) (listed (a .prices .now)) 50 (a .hand .bound) (heldAt s) (allowance (limitsAt s))
+
+heldIs : (s : tie.Start) → isGiven (heldAt s) ≡ haveAt s
+unfolding heldAt haveAt
+heldIs s = held-given (s .args .hand) (s .args .held .now) (haveAt s) refl
+
+abbrev stepsAfter : tie.After-search-from → List ℕ
+stepsAfter c = c .search-from .last .1 .1 .1 .0
+
+module _ (c : tie.After-search-from) where
+  abbrev s₀ : tie.Start
+  s₀ = c .before .before .before .before .before .before .before .before .before .before .before .before .before .before .before
+
+  has-plan : c .search-from .result .found ≡ true → (foundBySearch (c .search-from .result), stepsAfter c) ≡ given (foundAt s₀) (s₀ .args .steps .now)
+  unfolding foundAt limitsAt heldAt haveAt
+  has-plan e =
+      searched-found (sought (s₀ .args .cfg) (s₀ .args .kinds .now) (s₀ .args .prices .now) (s₀ .args .goal .now)) (s₀ .args .start .now) (limitsAt s₀) (s₀ .args .hand .bound) (haveAt s₀) (c .search-from .result) (s₀ .args .steps .now) (stepsAfter c) (c .search-from .ensures) (heldAt s₀) (heldIs s₀) e
+
+  has-none : c .search-from .result .found ≡ false → foundAt s₀ ≡ record { plan = heldAt s₀; ending = c .search-from .result .ending; expansions = c .search-from .result .expansions }
+  unfolding foundAt limitsAt heldAt haveAt
+  has-none e =
+      searched-lost (sought (s₀ .args .cfg) (s₀ .args .kinds .now) (s₀ .args .prices .now) (s₀ .args .goal .now)) (s₀ .args .start .now) (limitsAt s₀) (s₀ .args .hand .bound) (haveAt s₀) (c .search-from .result) (s₀ .args .steps .now) (stepsAfter c) (c .search-from .ensures) (heldAt s₀) (heldIs s₀) e
+
+  unwritten : c .search-from .result .found ≡ false → stepsAfter c ≡ s₀ .args .steps .now
+  unfolding foundAt limitsAt heldAt haveAt
+  unwritten e =
+      nothing-written (sought (s₀ .args .cfg) (s₀ .args .kinds .now) (s₀ .args .prices .now) (s₀ .args .goal .now)) (s₀ .args .start .now) (limitsAt s₀) (s₀ .args .hand .bound) (haveAt s₀) (c .search-from .result) (s₀ .args .steps .now) (stepsAfter c) (c .search-from .ensures) (heldAt s₀) (heldIs s₀) e
+
+search-plan-requires : tie.Need-search-plan-requires
+search-plan-requires c κs = search needs
+
+same-length : tie.Need-same-length
+same-length c = search needs
+
+same-length-2 : tie.Need-same-length-2
+same-length-2 c = search needs
+
+same-length-3 : tie.Need-same-length-3
+same-length-3 c = search needs
+
+same-length-4 : tie.Need-same-length-4
+same-length-4 c = search needs
+
+returns : tie.Need-returns
+unfolding foundAt limitsAt heldAt
+returns c = ap (λ (t : Answer). (t, stepsAfter (c .before .before .before .before .before .before .before .before .before .before))) (c .search-plan .ensures) ∙ has-plan (c .before .before .before .before .before .before .before .before .before .before) (c .before .if1 .taken)
+
+give-held-requires : tie.Need-give-held-requires
+unfolding lentAt questionAt
+give-held-requires c κs =
+    let s = c .before .before .before .before .before .before .before .before .before .before .before .before .before .before .before .before .before .before .before .before .before .before .before .before .before in
+    let k = ap length (unwritten (c .before .before .before .before .before .before .before .before .before .before) (c .before .if1 .left)) in
+    (s .pre .1 .0, s .pre .1 .1, omega (arith, k, okAt s .steps))
+
+same-length-5 : tie.Need-same-length-5
+same-length-5 c = search needs
+
+same-length-6 : tie.Need-same-length-6
+same-length-6 c = search needs
+
+same-length-7 : tie.Need-same-length-7
+same-length-7 c = search needs
+
+same-length-8 : tie.Need-same-length-8
+same-length-8 c = search needs
+
+returns-2 : tie.Need-returns-2
+unfolding foundAt limitsAt heldAt
+returns-2 c =
+    let s = c .before .before .before .before .before .before .before .before .before .before .before .before .before .before .before .before .before .before .before .before .before .before .before .before .before .before .before .before in
+    let n = c .before .before .before .before .if1 .left in
+    c .before .before .give-held .ensures
+    ∙ ap (λ (z : List ℕ). given (record { plan = heldAt s; ending = c .before .before .before .before .before .before .before .before .before .before .before .before .before .search-from .result .ending; expansions = c .before .before .before .before .before .before .before .before .before .before .before .before .before .search-from .result .expansions }) z) (unwritten (c .before .before .before .before .before .before .before .before .before .before .before .before .before) n)
+    ∙ ap (λ (t : Answered Cost ℕ). given t (s .args .steps .now)) (sym (has-none (c .before .before .before .before .before .before .before .before .before .before .before .before .before) n))
+
+pub with-search-spec : {M : Type 1} → statement M
+with-search-spec =
+    tie.close
+    (tie.spec
+    search-from-requires
+    search-plan-requires
+    same-length
+    same-length-2
+    same-length-3
+    same-length-4
+    returns
+    give-held-requires
+    same-length-5
+    same-length-6
+    same-length-7
+    same-length-8
+    returns-2)

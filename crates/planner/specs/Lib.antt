@@ -1,0 +1,7 @@
+pub mod Refusal
+pub mod Planned
+pub mod Accepted
+pub mod Steady
+pub mod Sound
+pub mod Marks
+pub mod Cases

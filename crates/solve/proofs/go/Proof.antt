@@ -1,0 +1,33 @@
+use native.Mathlib.Omega.{arith}
+use Rattle.search.proofs.Expanding.{window-held}
+use Rattle.solve.proofs.Laws.{roomy-still, start-waits, went}
+use borrow.Author.Needs.{needs}
+use Rattle.solve.proofs.go.Statement.{statement}
+use Rattle.solve.proofs.go.Tie as tie
+use Rattle.solve.proofs.go.Reads as reads
+use Rattle.solve.proofs.go.Lts as lts
+use Rattle.run.proofs.run.Reads as run-reads
+use Rattle.solve.proofs.begin.Reads as begin-reads
+
+begin-requires : tie.Need-begin-requires
+begin-requires c κs = (c .before .before .before .before .before .before .before .before .pre .0, (omega (arith, c .before .before .before .before .before .before .before .before .pre .1 .0 .plain-nodes), (omega (arith, c .before .before .before .before .before .before .before .before .pre .1 .0 .plain-list), ((c .before .before .before .before .before .before .before .before .pre .1 .1 .0), window-held _ ((c .before .before .before .before .before .before .before .before .pre .1 .1 .0) .bounds) _ (c .before .before .before .before .before .before .before .before .pre .1 .1 .1)))))
+
+run-requires : tie.Need-run-requires
+run-requires c κs = ((c .before .before .before .before .before .before .before .before .before .begin .ensures) .kept, ((c .before .before .before .before .before .before .before .before .before .begin .ensures) .piled, (roomy-still _ _ _ _ _ (c .before .before .before .before .before .before .before .before .before .before .before .before .before .before .before .before .before .before .pre .1 .0) (c .before .before .before .before .before .before .before .before .nodes .given) (c .before .before .before .before .list .given), (c .before .before .before .before .before .before .before .before .before .before .before .before .before .before .before .before .before .before .pre .1 .1 .0, start-waits _ _ _ _ _ _ (c .before .before .before .before .before .before .before .before .before .begin .ensures) (c .before .before .before .before .before .before .before .before .before .before .before .before .before .before .before .before .before .before .pre .1 .1 .1)))))
+
+same-length : tie.Need-same-length
+same-length c = search needs
+
+same-length-2 : tie.Need-same-length-2
+same-length-2 c = search needs
+
+same-length-3 : tie.Need-same-length-3
+same-length-3 c = search needs
+
+returns : tie.Need-returns
+returns c = went _ _ _ _ _ _ _ _ _ _ _ _ (c .before .before .before .before .before .before .before .before .before .before .before .before .before .before .before .before .begin .ensures) (c .before .before .before .before .before .before .run .ensures)
+
+pub go-spec : {M : Type 1} → statement M
+go-spec =
+    tie.close
+    (tie.spec begin-requires run-requires same-length same-length-2 same-length-3 returns)

@@ -1,0 +1,10 @@
+pub mod Parts
+pub mod Successors
+pub mod Limits
+pub mod Worked
+pub mod Tests
+pub mod Suffix
+pub mod Places
+pub mod Kept
+pub mod Listed
+pub mod Whole
