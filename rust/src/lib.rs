@@ -1,0 +1,234 @@
+//! The stack window planner: typed questions and answers over the proved library libcapi.a.
+//!
+//! ```no_run
+//! use nimskerf::{Allowances, Planner, Question, Reaches, Tables};
+//!
+//! let tables = Tables::desk();
+//! let question = Question {
+//!     start: &[0, 1, 2],
+//!     goal: &[0],
+//!     reaches: Reaches { dup_max: 16, swap_max: 17, max_len: 21 },
+//!     allowances: Allowances { max_expansions: 1000, states_without: 1000, states_with: 1000 },
+//!     tables: &tables,
+//! };
+//! let answer = Planner::new().plan(&question)?;
+//! for step in answer.plan.expect("a plan").steps {
+//!     println!("{step}");
+//! }
+//! # Ok::<(), nimskerf::Refusal>(())
+//! ```
+
+pub mod raw;
+pub mod sys;
+mod types;
+
+pub use raw::{Limits, Lists};
+pub use types::{Allowances, Cost, Ending, Kind, Mark, Origin, PriceList, Reaches, Refusal, Step, Tables};
+
+/// The longest window that can be packed.
+pub const MAX_LEN: usize = 21;
+/// The greatest allowance.
+pub const MAX_ALLOWANCE: usize = 65_536;
+/// The least step list that the planner and the builders take.
+pub const MIN_STEPS: usize = 128;
+/// Work list entries beyond the larger state allowance.
+pub const SPARE_ENTRIES: usize = 50;
+/// Numbers to an entry of the node list.
+pub const NODE_NUMBERS: usize = 8;
+/// Heads that [`Planner`] lends for each entry: with more than one, fewer nodes share a head.
+pub const HEADS_LENT: usize = 2;
+/// Numbers to an entry of the open list.
+pub const OPEN_NUMBERS: usize = 4;
+
+/// A question to the planner. Windows are keys 0 to 63, top first.
+#[derive(Clone, Copy, Debug)]
+pub struct Question<'a> {
+    pub start: &'a [u8],
+    pub goal: &'a [u8],
+    pub reaches: Reaches,
+    pub allowances: Allowances,
+    pub tables: &'a Tables,
+}
+
+/// A plan from start to goal.
+#[derive(Clone, Debug, PartialEq, Eq)]
+pub struct Plan {
+    pub steps: Vec<Step>,
+    /// The sum of the listed prices of the steps.
+    pub cost: Cost,
+    /// The pass mark. The plan costs no more, and higher allowances never raise it.
+    pub ceiling: Cost,
+    pub origin: Origin,
+}
+
+/// The planner's answer to an accepted question.
+#[derive(Clone, Debug, PartialEq, Eq)]
+pub struct Answer {
+    /// None if no plan was found.
+    pub plan: Option<Plan>,
+    pub ending: Ending,
+    /// How many states were expanded.
+    pub expansions: usize,
+}
+
+/// Owns the lists that a planning needs, and keeps them from one planning to the next.
+#[derive(Debug, Default)]
+pub struct Planner {
+    steps: Vec<u16>,
+    nodes: Vec<u64>,
+    heads: Vec<u64>,
+    open: Vec<u64>,
+}
+
+impl Planner {
+    /// Without lists; the first planning makes them.
+    pub fn new() -> Self {
+        Self::default()
+    }
+
+    /// With lists for these allowances.
+    pub fn with_allowances(allowances: &Allowances) -> Self {
+        let mut planner = Self::new();
+        planner.grow(allowances);
+        planner
+    }
+
+    /// Plans, with lists as long as the question's allowances ask.
+    pub fn plan(&mut self, question: &Question<'_>) -> Result<Answer, Refusal> {
+        self.grow(&question.allowances);
+        plan_in(
+            question,
+            Lists { steps: &mut self.steps, nodes: &mut self.nodes, heads: &mut self.heads, open: &mut self.open },
+        )
+    }
+
+    fn grow(&mut self, allowances: &Allowances) {
+        let states = allowances.states_without.max(allowances.states_with).min(MAX_ALLOWANCE);
+        let steps = allowances.max_expansions.clamp(MIN_STEPS, MAX_ALLOWANCE);
+        let entries = states + SPARE_ENTRIES;
+        fn at_least<T: Clone + Default>(list: &mut Vec<T>, length: usize) {
+            if list.len() < length {
+                list.resize(length, T::default());
+            }
+        }
+        at_least(&mut self.steps, steps);
+        at_least(&mut self.nodes, entries * NODE_NUMBERS);
+        at_least(&mut self.heads, entries * HEADS_LENT);
+        at_least(&mut self.open, entries * OPEN_NUMBERS);
+    }
+}
+
+/// Plans in lists that the caller lends.
+pub fn plan_in(question: &Question<'_>, lists: Lists<'_>) -> Result<Answer, Refusal> {
+    let Reaches { dup_max, swap_max, max_len } = question.reaches;
+    let Allowances { max_expansions, states_without, states_with } = question.allowances;
+    let limits = Limits { dup_max, swap_max, max_len, max_expansions, states_without, states_with };
+    let Lists { steps, nodes, heads, open } = lists;
+    let answer = raw::plan(
+        question.start,
+        question.goal,
+        &limits,
+        &question.tables.kinds,
+        &question.tables.prices,
+        Lists { steps: &mut *steps, nodes, heads, open },
+    );
+    if let Some(refusal) = Refusal::from_number(answer.refusal, 0) {
+        return Err(refusal);
+    }
+    let plan = (answer.found == 1).then(|| Plan {
+        steps: typed(&steps[..answer.step_count]),
+        cost: Cost::new(answer.plan_gas, answer.plan_bytes),
+        ceiling: Cost::new(answer.ceiling_gas, answer.ceiling_bytes),
+        origin: Origin::from_number(answer.origin),
+    });
+    Ok(Answer { plan, ending: Ending::from_number(answer.ending), expansions: answer.expansions })
+}
+
+/// The window that steps lead to.
+pub fn replay(start: &[u8], steps: &[Step], reaches: Reaches, tables: &Tables) -> Result<Vec<u8>, Refusal> {
+    replay_codes(start, &codes(steps), reaches, tables)
+}
+
+/// The window that step codes, whoever wrote them, lead to.
+pub fn replay_codes(start: &[u8], codes: &[u16], reaches: Reaches, tables: &Tables) -> Result<Vec<u8>, Refusal> {
+    let Reaches { dup_max, swap_max, max_len } = reaches;
+    let mut result = [0; MAX_LEN];
+    let replayed = raw::replay(start, codes, dup_max, swap_max, max_len, &tables.kinds, &mut result);
+    match Refusal::from_number(replayed.refusal, replayed.index) {
+        Some(refusal) => Err(refusal),
+        None => Ok(result[..replayed.length].to_vec()),
+    }
+}
+
+/// Marks steps against a ceiling.
+pub fn mark(
+    start: &[u8],
+    goal: &[u8],
+    steps: &[Step],
+    reaches: Reaches,
+    tables: &Tables,
+    ceiling: Cost,
+) -> Result<Mark, Refusal> {
+    mark_codes(start, goal, &codes(steps), reaches, tables, ceiling)
+}
+
+/// Marks step codes, whoever wrote them, against a ceiling.
+pub fn mark_codes(
+    start: &[u8],
+    goal: &[u8],
+    codes: &[u16],
+    reaches: Reaches,
+    tables: &Tables,
+    ceiling: Cost,
+) -> Result<Mark, Refusal> {
+    let Reaches { dup_max, swap_max, max_len } = reaches;
+    let Tables { kinds, prices } = tables;
+    let marked = raw::mark(start, goal, codes, dup_max, swap_max, max_len, kinds, prices, ceiling.gas, ceiling.bytes);
+    match Refusal::from_number(marked.refusal, marked.index) {
+        Some(refusal) => Err(refusal),
+        None => Ok(match marked.mark {
+            0 => Mark::Pass,
+            1 => Mark::Elsewhere,
+            2 => Mark::TooDear,
+            other => panic!("no mark has the number {other}"),
+        }),
+    }
+}
+
+/// A window as a number: six bits per key, top lowest, a marker bit above.
+pub fn pack(window: &[u8]) -> Result<u128, Refusal> {
+    let packed = raw::pack(window);
+    match Refusal::from_number(packed.refusal, 0) {
+        Some(refusal) => Err(refusal),
+        None => Ok(u128::from(packed.hi) << 64 | u128::from(packed.lo)),
+    }
+}
+
+/// The Swaps that turn start into goal.
+pub fn star_swap(start: &[u8], goal: &[u8], swap_max: usize) -> Result<Vec<Step>, Refusal> {
+    let mut steps = [0; MIN_STEPS];
+    let built = raw::star_swap(start, goal, swap_max, &mut steps);
+    built_steps(built, &steps)
+}
+
+/// The steps that drop the keys under the prefix goal of start.
+pub fn delete_tail(start: &[u8], goal: &[u8], swap_max: usize) -> Result<Vec<Step>, Refusal> {
+    let mut steps = [0; MIN_STEPS];
+    let built = raw::delete_tail(start, goal, swap_max, &mut steps);
+    built_steps(built, &steps)
+}
+
+fn built_steps(built: sys::NimskerfBuilt, steps: &[u16]) -> Result<Vec<Step>, Refusal> {
+    match Refusal::from_number(built.refusal, 0) {
+        Some(refusal) => Err(refusal),
+        None => Ok(typed(&steps[..built.count])),
+    }
+}
+
+fn codes(steps: &[Step]) -> Vec<u16> {
+    steps.iter().map(|step| step.code()).collect()
+}
+
+fn typed(codes: &[u16]) -> Vec<Step> {
+    codes.iter().map(|&code| Step::from_code(code).expect("a plan has steps only")).collect()
+}
