@@ -1,4 +1,1 @@
-// The cost algebra of gas and bytes stands in specs/; this crate has no code of its own.
-pub fn nothing(x: u32) -> u32 {
-    x
-}
+// Gas, then bytes, as the cost of the bounded search: specs/GasBytes.antt. No code.

@@ -30,10 +30,9 @@ returns : tie.Need-returns
 unfolding questionAt lentAt
 returns c =
     let s = c .before .before .before .before .before .before .before .before .before .before .before in
-    let n = c .before .before .refusal .result in
-    (
+    let n = c .before .before .refusal .result in (
       ap (λ (t : Answer). (t, s .args .steps .now)) (c .refused .ensures)
-      ∙ sym (when-refused (questionAt s) (lentAt s) (s .args .steps .now) n (c .before .before .refusal .ensures) (c .before .if1 .taken)),
+          ∙ sym (when-refused (questionAt s) (lentAt s) (s .args .steps .now) n (c .before .before .refusal .ensures) (c .before .if1 .taken)),
       (work-same _ (s .args .nodes .now), work-same _ (s .args .heads .now), work-same _ (s .args .list .now)),
     )
 
@@ -57,8 +56,7 @@ unfolding questionAt lentAt
 returns-2 c =
     let s = c .before .before .before .before .before .before .before .before .before .before .before .before .before .before .before .before .before .before .before .before .before .before .before in
     let p = c .before .before .before .before .before .before .before .before .accepted-plan in
-    let z = given-accepted (answered (questionAt s)) (p .result) (s .args .steps .now) (p .last .1 .1 .1 .0) (p .ensures) in
-    (
+    let z = given-accepted (answered (questionAt s)) (p .result) (s .args .steps .now) (p .last .1 .1 .1 .0) (p .ensures) in (
       p .ensures ∙ sym (when-accepted (questionAt s) (lentAt s) (s .args .steps .now) (sym (c .before .before .before .before .before .before .before .before .before .before .before .before .before .before .refusal .ensures) ∙ c .before .before .before .before .before .before .before .before .before .before .before .before .before .if1 .left)),
       (
         work-free _ (s .args .nodes .now) (p .last .0) z (same-length-2 c),

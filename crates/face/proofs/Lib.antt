@@ -1,0 +1,4 @@
+pub mod Order
+pub mod Again
+pub mod Steps
+pub mod Lent
