@@ -1,0 +1,14 @@
+pub mod Grammar
+pub mod Question
+pub mod Passed
+pub mod Words
+pub mod Machine
+pub mod Reader
+pub mod Lines
+pub mod Parts
+pub mod Meaning
+pub mod Feeding
+pub mod Text
+pub mod Put
+pub mod Tables
+pub mod Worked
