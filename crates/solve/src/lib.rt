@@ -161,7 +161,7 @@ fn read_steps(nodes: &[u64], heads: &[u64], steps: &mut [u16], ask: Ask, left: L
 }
 
 // Begins, runs and reads back.
-pub fn plan(
+pub fn run_and_read(
     nodes: &mut [u64],
     heads: &mut [u64],
     list: &mut [u64],
@@ -248,7 +248,7 @@ pub fn search_table(
     requires { ⌜ limits .most ≤ 65536 ⌝ }
     ensures { λ r. ⌜ SearchedFor (questionOf setup (now (table .entry)) (now (prices .entry))) ask limits bound have r (now (steps .entry)) (now (steps .exit)) ⌝ }
 {
-    let r = plan(
+    let r = run_and_read(
         nodes,
         heads,
         list,

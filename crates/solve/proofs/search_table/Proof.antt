@@ -6,16 +6,16 @@ use Rattle.solve.proofs.search_table.Reads as reads
 use Rattle.solve.proofs.search_table.Lts as lts
 use Rattle.costs.proofs.Cost.packed.Reads as packed-reads
 use Rattle.solve.proofs.outcome_of.Reads as outcome-of-reads
-use Rattle.solve.proofs.plan.Reads as plan-reads
+use Rattle.solve.proofs.run_and_read.Reads as run-and-read-reads
 
 packed-requires : tie.Need-packed-requires
 packed-requires c κs = search needs
 
-plan-requires : tie.Need-plan-requires
-plan-requires c κs = (c .before .before .before .before .before .before .before .before .before .before .before .pre .0, (c .before .before .before .before .before .before .before .before .before .before .before .pre .1 .0, (c .before .before .before .before .before .before .before .before .before .before .before .pre .1 .1 .0, (c .before .before .before .before .before .before .before .before .before .before .before .pre .1 .1 .1 .0, c .before .before .before .before .before .before .before .before .before .before .before .pre .1 .1 .1 .1 .0))))
+run-and-read-requires : tie.Need-run-and-read-requires
+run-and-read-requires c κs = (c .before .before .before .before .before .before .before .before .before .before .before .pre .0, (c .before .before .before .before .before .before .before .before .before .before .before .pre .1 .0, (c .before .before .before .before .before .before .before .before .before .before .before .pre .1 .1 .0, (c .before .before .before .before .before .before .before .before .before .before .before .pre .1 .1 .1 .0, c .before .before .before .before .before .before .before .before .before .before .before .pre .1 .1 .1 .1 .0))))
 
 outcome-of-requires : tie.Need-outcome-of-requires
-outcome-of-requires c κs = placed-all _ _ _ _ _ _ _ _ (c .before .before .before .before .before .before .before .before .before .before .plan .ensures)
+outcome-of-requires c κs = placed-all _ _ _ _ _ _ _ _ (c .before .before .before .before .before .before .before .before .before .before .run-and-read .ensures)
 
 same-length : tie.Need-same-length
 same-length c = search needs
@@ -30,14 +30,14 @@ same-length-4 : tie.Need-same-length-4
 same-length-4 c = search needs
 
 returns : tie.Need-returns
-returns c = searched-all _ _ _ ((c .before .before .before .before .before .before .before .before .before .before .before .before .before .before .before .before .before .before .before .before .before .before .before .pre .1 .1 .0) .bounds) ((c .before .before .before .before .before .before .before .before .before .before .before .before .before .before .before .before .before .before .before .before .before .before .before .pre .1 .1 .0) .listed) (c .before .before .before .before .before .before .before .before .before .before .before .before .before .before .before .before .before .before .before .before .before .before .before .pre .1 .1 .1 .1 .1) _ _ (c .before .before .before .before .before .before .before .before .before .before .before .before .packed .ensures) _ _ _ _ (c .before .before .before .before .before .before .before .before .before .before .before .plan .ensures) _ (c .outcome-of .ensures)
+returns c = searched-all _ _ _ ((c .before .before .before .before .before .before .before .before .before .before .before .before .before .before .before .before .before .before .before .before .before .before .before .pre .1 .1 .0) .bounds) ((c .before .before .before .before .before .before .before .before .before .before .before .before .before .before .before .before .before .before .before .before .before .before .before .pre .1 .1 .0) .listed) (c .before .before .before .before .before .before .before .before .before .before .before .before .before .before .before .before .before .before .before .before .before .before .before .pre .1 .1 .1 .1 .1) _ _ (c .before .before .before .before .before .before .before .before .before .before .before .before .packed .ensures) _ _ _ _ (c .before .before .before .before .before .before .before .before .before .before .before .run-and-read .ensures) _ (c .outcome-of .ensures)
 
 pub search-table-spec : {M : Type 1} → statement M
 search-table-spec =
     tie.close
     (tie.spec
     packed-requires
-    plan-requires
+    run-and-read-requires
     outcome-of-requires
     same-length
     same-length-2

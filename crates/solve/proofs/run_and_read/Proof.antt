@@ -1,10 +1,10 @@
 use native.Mathlib.Omega.{arith}
 use Rattle.solve.proofs.Laws.{all-planned}
 use borrow.Author.Needs.{needs}
-use Rattle.solve.proofs.plan.Statement.{statement}
-use Rattle.solve.proofs.plan.Tie as tie
-use Rattle.solve.proofs.plan.Reads as reads
-use Rattle.solve.proofs.plan.Lts as lts
+use Rattle.solve.proofs.run_and_read.Statement.{statement}
+use Rattle.solve.proofs.run_and_read.Tie as tie
+use Rattle.solve.proofs.run_and_read.Reads as reads
+use Rattle.solve.proofs.run_and_read.Lts as lts
 use Rattle.solve.proofs.go.Reads as go-reads
 use Rattle.solve.proofs.read_steps.Reads as read-steps-reads
 
@@ -29,8 +29,8 @@ same-length-4 c = search needs
 returns : tie.Need-returns
 returns c = all-planned _ _ _ _ _ _ _ _ _ _ _ (c .before .before .before .before .before .before .before .before .before .before .before .before .go .ensures) (c .before .before .read-steps .ensures)
 
-pub plan-spec : {M : Type 1} → statement M
-plan-spec =
+pub run-and-read-spec : {M : Type 1} → statement M
+run-and-read-spec =
     tie.close
     (tie.spec
     go-requires
