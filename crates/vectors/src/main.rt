@@ -1,0 +1,376 @@
+// Replays a list of answers of the Rust, and of refusals, and says whether the calls answer the same.
+mod compare;
+mod file;
+mod lists;
+
+use compare::same_answer;
+use compare::same_count;
+use compare::same_fields;
+use compare::same_result;
+use compare::same_steps;
+use file::byte;
+use file::count;
+use file::number;
+use file::part;
+use libc::STDOUT_FILENO;
+use lists::cut8;
+use lists::cut16;
+use lists::cut32;
+use lists::cut64;
+use lists::fill_result;
+use lists::fill_steps;
+use lists::fill_work;
+ghost use mathlib.Core.Path.{_≡_};
+ghost use Prim.Native.Nat.{_+_, _≤_, _<_};
+ghost use lib.ListN.{length};
+
+// How many records are read, which differs first and how many differ.
+struct Tally {
+    sound: bool,
+    records: usize,
+    first: usize,
+    wrong: usize,
+}
+
+// Whether the planner answers as the record says and writes the record's steps alone.
+fn plan_as(
+    rec: &[u8],
+    kinds: &[u8],
+    prices: &[u32],
+    steps: &mut [u16],
+    nodes: &mut [u64],
+    heads: &mut [u64],
+    list: &mut [u64],
+) -> bool {
+    let q = file::limits_of(rec);
+    let r = planner::plan(
+        file::start(rec),
+        file::goal(rec),
+        q.dup_max,
+        q.swap_max,
+        q.max_len,
+        q.max_expansions,
+        q.states_without,
+        q.states_with,
+        kinds,
+        prices,
+        steps,
+        nodes,
+        heads,
+        list,
+    );
+    if same_answer(rec, r) {
+        return same_steps(rec, steps);
+    }
+    false
+}
+
+fn fresh_plan_as(
+    rec: &[u8],
+    kinds: &[u8],
+    prices: &[u32],
+    steps: &mut [u16],
+    nodes: &mut [u64],
+    heads: &mut [u64],
+    list: &mut [u64],
+) -> bool {
+    fill_steps(steps);
+    plan_as(rec, kinds, prices, steps, nodes, heads, list)
+}
+
+// The planner, over lists of the lengths that the record says.
+fn check_plan(
+    rec: &[u8],
+    kinds: &[u8],
+    prices: &[u32],
+    steps: &mut [u16],
+    nodes: &mut [u64],
+    heads: &mut [u64],
+    list: &mut [u64],
+) -> bool {
+    let s = cut16(count(rec, 32), steps);
+    let n = cut64(count(rec, 36), nodes);
+    let h = cut64(count(rec, 40), heads);
+    let l = cut64(count(rec, 44), list);
+    fresh_plan_as(
+        rec,
+        kinds,
+        prices,
+        &mut steps[..s],
+        &mut nodes[..n],
+        &mut heads[..h],
+        &mut list[..l],
+    )
+}
+
+// Whether replay answers as the record says and writes the record's end window alone.
+fn replay_as(rec: &[u8], kinds: &[u8], steps: &[u16], result: &mut [u8]) -> bool {
+    let q = file::limits_of(rec);
+    let r = replay::replay(
+        file::start(rec),
+        steps,
+        q.dup_max,
+        q.swap_max,
+        q.max_len,
+        kinds,
+        result,
+    );
+    let got = [r.refusal as usize, r.index, r.length, 0, 0, 0, 0, 0, 0, 0];
+    if same_fields(rec, &got) {
+        return same_result(rec, result);
+    }
+    false
+}
+
+fn fresh_replay_as(rec: &[u8], kinds: &[u8], steps: &[u16], result: &mut [u8]) -> bool {
+    fill_result(result);
+    replay_as(rec, kinds, steps, result)
+}
+
+fn check_replay(rec: &[u8], kinds: &[u8], steps: &[u16]) -> bool {
+    let mut room = lists::result_room();
+    let n = cut8(count(rec, 32), &room);
+    fresh_replay_as(rec, kinds, steps, &mut room[..n])
+}
+
+fn check_mark(rec: &[u8], kinds: &[u8], prices: &[u32], steps: &[u16]) -> bool {
+    let q = file::limits_of(rec);
+    let r = marking::mark(
+        file::start(rec),
+        file::goal(rec),
+        steps,
+        q.dup_max,
+        q.swap_max,
+        q.max_len,
+        kinds,
+        prices,
+        number(rec, 48),
+        number(rec, 52),
+    );
+    let got = [
+        r.refusal as usize,
+        r.index,
+        r.mark as usize,
+        0,
+        0,
+        0,
+        0,
+        0,
+        0,
+        0,
+    ];
+    same_fields(rec, &got)
+}
+
+fn check_pack(rec: &[u8]) -> bool {
+    let r = window::pack(file::start(rec));
+    let low = r.lo as usize;
+    let high = r.hi as usize;
+    let got = [
+        r.refusal as usize,
+        low % 4294967296,
+        low / 4294967296,
+        high % 4294967296,
+        high / 4294967296,
+        0,
+        0,
+        0,
+        0,
+        0,
+    ];
+    same_fields(rec, &got)
+}
+
+fn star_as(rec: &[u8], steps: &mut [u16]) -> bool {
+    let r = star_swap::star_swap(file::start(rec), file::goal(rec), count(rec, 12), steps);
+    if same_count(rec, r.refusal, r.count) {
+        return same_steps(rec, steps);
+    }
+    false
+}
+
+fn tail_as(rec: &[u8], steps: &mut [u16]) -> bool {
+    let r = builders::delete_tail(file::start(rec), file::goal(rec), count(rec, 12), steps);
+    if same_count(rec, r.refusal, r.count) {
+        return same_steps(rec, steps);
+    }
+    false
+}
+
+// Star-swap, or else delete-tail.
+fn built_as(rec: &[u8], star: bool, steps: &mut [u16]) -> bool {
+    fill_steps(steps);
+    if star {
+        return star_as(rec, steps);
+    }
+    tail_as(rec, steps)
+}
+
+fn check_built(rec: &[u8], star: bool, steps: &mut [u16]) -> bool {
+    let n = cut16(count(rec, 32), steps);
+    built_as(rec, star, &mut steps[..n])
+}
+
+// Replay, or else marking.
+fn asked_as(rec: &[u8], again: bool, kinds: &[u8], prices: &[u32], steps: &mut [u16]) -> bool {
+    lists::load_steps(rec, steps);
+    if again {
+        return check_replay(rec, kinds, steps);
+    }
+    check_mark(rec, kinds, prices, steps)
+}
+
+fn check_asked(rec: &[u8], again: bool, kinds: &[u8], prices: &[u32], steps: &mut [u16]) -> bool {
+    let n = cut16(count(rec, 96), steps);
+    asked_as(rec, again, kinds, prices, &mut steps[..n])
+}
+
+// Every call but the planner's.
+fn check_other(rec: &[u8], call: u8, kinds: &[u8], prices: &[u32], steps: &mut [u16]) -> bool {
+    if call < 3 {
+        return check_asked(rec, call == 1, kinds, prices, steps);
+    }
+    if call == 3 {
+        return check_pack(rec);
+    }
+    check_built(rec, call == 4, steps)
+}
+
+// Whether the call of a record answers as the record says.
+fn check_record(
+    bytes: &[u8],
+    rec: &[u8],
+    steps: &mut [u16],
+    nodes: &mut [u64],
+    heads: &mut [u64],
+    list: &mut [u64],
+) -> bool {
+    let table = lists::price_list(bytes, rec);
+    let kinds = file::kinds(bytes, rec);
+    let n = cut32(byte(rec, 5) as usize, &table);
+    let prices = &table[..n];
+    let call = byte(rec, 0);
+    if call == 0 {
+        return check_plan(rec, kinds, prices, steps, nodes, heads, list);
+    }
+    check_other(rec, call, kinds, prices, steps)
+}
+
+impl Tally {
+    // One record more.
+    fn noted(self, same: bool) -> Tally
+        requires { ⌜ (self .records < 4294967296) × (self .wrong ≤ self .records) ⌝ }
+        ensures { λ r. ⌜ (r .records ≡ self .records + 1) × (r .wrong ≤ r .records) ⌝ }
+    {
+        let i = self.records;
+        let wrong = self.wrong;
+        if same {
+            return Tally {
+                sound: true,
+                records: i + 1,
+                first: self.first,
+                wrong,
+            };
+        }
+        let first = if wrong == 0 { i } else { self.first };
+        Tally {
+            sound: true,
+            records: i + 1,
+            first,
+            wrong: wrong + 1,
+        }
+    }
+}
+
+// The records from a place on, one after the other.
+fn check_records(
+    bytes: &[u8],
+    from: usize,
+    steps: &mut [u16],
+    nodes: &mut [u64],
+    heads: &mut [u64],
+    list: &mut [u64],
+) -> Tally
+    requires { ⌜ from ≤ length (now bytes) ⌝ }
+{
+    let n = count(bytes, 16);
+    let mut at = from;
+    let mut tally = Tally {
+        sound: true,
+        records: 0,
+        first: 0,
+        wrong: 0,
+    };
+    while tally.records < n {
+        let size = file::record_size(bytes, at);
+        if size == 0 {
+            return Tally {
+                sound: false,
+                records: 0,
+                first: 0,
+                wrong: 0,
+            };
+        }
+        let same = check_record(bytes, part(bytes, at, size), steps, nodes, heads, list);
+        tally = tally.noted(same);
+        at += size;
+    }
+    Tally {
+        sound: at == bytes.len(),
+        records: tally.records,
+        first: tally.first,
+        wrong: tally.wrong,
+    }
+}
+
+fn check_file(bytes: &[u8]) -> Tally {
+    let mut steps = lists::step_room();
+    let mut nodes = lists::node_room();
+    let mut heads = lists::head_room();
+    let mut list = lists::open_room();
+    fill_work(&mut nodes, 3);
+    fill_work(&mut heads, 5);
+    fill_work(&mut list, 7);
+    let from = file::records_at(bytes);
+    if from == 0 {
+        return Tally {
+            sound: false,
+            records: 0,
+            first: 0,
+            wrong: 0,
+        };
+    }
+    check_records(bytes, from, &mut steps, &mut nodes, &mut heads, &mut list)
+}
+
+fn say(tally: Tally) {
+    if !tally.sound {
+        io::write_all(STDOUT_FILENO, b"unreadable\n");
+        return;
+    }
+    if tally.wrong == 0 {
+        io::print_decimal(STDOUT_FILENO, tally.records as u64);
+        io::write_all(STDOUT_FILENO, b" vectors as expected\n");
+        return;
+    }
+    io::write_all(STDOUT_FILENO, b"record ");
+    io::print_decimal(STDOUT_FILENO, tally.first as u64);
+    io::write_all(STDOUT_FILENO, b" differs, ");
+    io::print_decimal(STDOUT_FILENO, tally.wrong as u64);
+    io::write_all(STDOUT_FILENO, b" of ");
+    io::print_decimal(STDOUT_FILENO, tally.records as u64);
+    io::write_all(STDOUT_FILENO, b" differ\n");
+}
+
+fn main() {
+    let path = b"vectors.bin";
+    let fd = os::open_read(path);
+    if fd < 0 {
+        os::fail(path);
+        return;
+    }
+    let mut bytes = lists::file_room();
+    let n = io::read_full(fd, &mut bytes);
+    libc::close(fd);
+    say(check_file(&bytes[..n]));
+}
