@@ -11,7 +11,8 @@ ghost use Rattle.costs.specs.declared.Step.{Step};
 ghost use Rattle.window.specs.Keys.{keysOf, Window};
 ghost use Rattle.heuristic.specs.Heuristic.{times, gasOf, leastDup, term, sumTo, keyTerm, heuristicOf};
 ghost use Rattle.heuristic.specs.Counts.{Counted, KeysFit, countTerm, tableTerm};
-ghost use Rattle.heuristic.specs.Steady.{Standing};
+ghost use Rattle.heuristic.specs.Steady.{Changing, Standing};
+ghost use Rattle.heuristic.specs.Bare.{bareTerm, overKeys};
 
 // A number of a table of keys.
 pub fn at(table: &[u8], key: u8) -> u8
@@ -157,14 +158,36 @@ pub fn heuristic(state: PackedState, goal: &[u8], dup_max: usize, prices: &[u32]
     }
 }
 
-// An estimate with the copies of one key changed from old to new.
-fn shifted(h: u32, want: &[u8], dup: u32, prices: &[u32], key: u8, old: u8, new: u8) -> u32
-    requires { ⌜ (key < length (now want)) × (countTerm (now prices) dup (now want) key old ≤ h) × (h + countTerm (now prices) dup (now want) key new ≤ 4294967295) ⌝ }
-    ensures { λ r. ⌜ r + countTerm (now (prices .entry)) dup (now (want .entry)) key old ≡ h + countTerm (now (prices .entry)) dup (now (want .entry)) key new ⌝ }
+// An estimate with one key more, of which so many copies are there.
+fn one_more(h: u32, want: &[u8], dup: u32, prices: &[u32], key: u8, old: u8) -> u32
+    requires { ⌜ Changing (now prices) dup h (now want) key old (old + 1) ⌝ }
+    ensures { λ r. ⌜ r + countTerm (now (prices .entry)) dup (now (want .entry)) key old ≡ h + countTerm (now (prices .entry)) dup (now (want .entry)) key (old + 1) ⌝ }
 {
-    let a = count_term(want, dup, prices, key, old);
-    let b = count_term(want, dup, prices, key, new);
-    h - a + b
+    let w = at(want, key);
+    if w <= old {
+        return h + gas_of(prices, Step::Pop);
+    }
+    let mat = gas_of(prices, Step::PushImm(key));
+    if old == 0 {
+        return h - mat;
+    }
+    h - lesser(mat, dup)
+}
+
+// An estimate with one key less, of which one copy more than so many is there.
+fn one_less(h: u32, want: &[u8], dup: u32, prices: &[u32], key: u8, new: u8) -> u32
+    requires { ⌜ Changing (now prices) dup h (now want) key (new + 1) new ⌝ }
+    ensures { λ r. ⌜ r + countTerm (now (prices .entry)) dup (now (want .entry)) key (new + 1) ≡ h + countTerm (now (prices .entry)) dup (now (want .entry)) key new ⌝ }
+{
+    let w = at(want, key);
+    if w <= new {
+        return h - gas_of(prices, Step::Pop);
+    }
+    let mat = gas_of(prices, Step::PushImm(key));
+    if new == 0 {
+        return h + mat;
+    }
+    h + lesser(mat, dup)
 }
 
 // The estimate of a window with one key more, from the window's estimate and counts.
@@ -173,7 +196,7 @@ pub fn after_push(h: u32, have: &[u8], want: &[u8], dup: u32, prices: &[u32], ke
     ensures { λ r. ⌜ ((w : List ℕ) → (goal : List ℕ) → Standing (now (prices .entry)) dup h (now (have .entry)) (now (want .entry)) w goal → length w + length goal < 42 → r ≡ sumTo (keyTerm (now (prices .entry)) dup goal (key ∷ w)) 64) ⌝ }
 {
     let old = at(have, key);
-    shifted(h, want, dup, prices, key, old, old + 1)
+    one_more(h, want, dup, prices, key, old)
 }
 
 // The estimate of a window without its top key, from the window's estimate and counts.
@@ -182,5 +205,42 @@ pub fn after_pop(h: u32, have: &[u8], want: &[u8], dup: u32, prices: &[u32], key
     ensures { λ r. ⌜ ((w : List ℕ) → (goal : List ℕ) → Standing (now (prices .entry)) dup h (now (have .entry)) (now (want .entry)) (key ∷ w) goal → r ≡ sumTo (keyTerm (now (prices .entry)) dup goal w) 64) ⌝ }
 {
     let old = at(have, key);
-    shifted(h, want, dup, prices, key, old, old - 1)
+    one_less(h, want, dup, prices, key, old - 1)
+}
+
+// What the keys add, in the list each once, with no copy there.
+pub fn bare(keys: &[u8], want: &[u8], dup: u32, prices: &[u32]) -> u32
+    requires { ⌜ KeysFit (now keys) × (length (now want) ≡ 64) ⌝ }
+    ensures { λ r. ⌜ r ≡ overKeys (bareTerm (now (prices .entry)) dup (now (want .entry))) (now (keys .entry)) ⌝ }
+{
+    let mut sum = 0;
+    let mut i = keys.len();
+    while 0 < i {
+        i -= 1;
+        sum = costs::saturating_add(sum, count_term(want, dup, prices, keys[i], 0));
+    }
+    sum
+}
+
+// The estimate of a window and the counts of its keys, into a table of zeros, from the estimate of the empty window.
+pub fn standing(
+    state: PackedState,
+    base: u32,
+    want: &[u8],
+    dup: u32,
+    prices: &[u32],
+    have: &mut [u8],
+) -> u32
+    requires { ⌜ Window state × ((goal : List ℕ) × Standing (now prices) dup base (now have) (now want) [] goal × (length goal ≤ 21)) ⌝ }
+    ensures { λ h. ⌜ ((goal : List ℕ) → Standing (now (prices .entry)) dup base (now (have .entry)) (now (want .entry)) [] goal → length goal ≤ 21 → Standing (now (prices .entry)) dup h (now (have .exit)) (now (want .entry)) (keysOf state) goal) ⌝ }
+{
+    let mut h = base;
+    let mut i = state.len();
+    while 0 < i {
+        i -= 1;
+        let key = state.get(i);
+        h = after_push(h, have, want, dup, prices, key);
+        more(have, key);
+    }
+    h
 }

@@ -88,54 +88,56 @@ module _ (xs hs : List ℕ) (n hi lo : ℕ) (K : Kept xs hs n) where
 
 -- ---- storing
 
--- v is the row of a node m whose state was sought
-module _ (xs ys hs : List ℕ) (n : ℕ) (m : Node) (v : Row) (vE : nodeOf v ≡ nodeIs m) (hE : v .hi ≡ m .state .hi) (lE : v .lo ≡ m .state .lo) (K : Kept xs hs n) (at : Found) (S : Sought xs n (m .state .hi) (m .state .lo) at) where
-  state-as : nodeOf v .state ≡ whole (m .state)
-  state-as = ap (λ (x : SearchNode). x .state) vE
-
+-- v is a row whose state was sought
+module _ (xs ys hs : List ℕ) (n : ℕ) (v : Row) (K : Kept xs hs n) (at : Found) (S : Sought xs n (v .hi) (v .lo) at) where
   module _ (gs : List ℕ) (no : at ≡ Nothing) (C : Chained ys gs (n + 1)) (W : Wrote xs ys n v) where
-    before-all : NotBefore blank (nodeIs m .state) (length (nodesOf xs n)) (nodesOf xs n)
+    before-all : NotBefore blank (nodeOf v .state) (length (nodesOf xs n)) (nodesOf xs n)
     before-all = rw (length-rows n (nodeAt xs)) (S .missing no)
 
-    more-nodes : nodesOf ys (n + 1) ≡ nodesOf xs n ++ (nodeIs m ∷ [])
+    more-nodes : nodesOf ys (n + 1) ≡ nodesOf xs n ++ (nodeOf v ∷ [])
     more-nodes =
         ap (nodesOf ys) (add-one n)
         ∙ rows-more n (nodeAt ys)
-        ∙ ap₂ (λ (l : List SearchNode) (x : SearchNode). l ++ (x ∷ [])) (rows-same n (nodeAt ys) (nodeAt xs) (λ k l. ap nodeOf (W .others k (λ e. omega arith)))) (ap nodeOf (W .new) ∙ vE)
+        ∙ ap₂ (λ (l : List SearchNode) (x : SearchNode). l ++ (x ∷ [])) (rows-same n (nodeAt ys) (nodeAt xs) (λ k l. ap nodeOf (W .others k (λ e. omega arith)))) (ap nodeOf (W .new))
 
-    pub stored-insert : Stored xs n (nodeIs m) ys gs (n + 1)
+    pub stored-insert : Stored xs n (nodeOf v) ys gs (n + 1)
     stored-insert = record {
-      stored = more-nodes ∙ sym (stored-new blank (nodeIs m) (nodesOf xs n) before-all);
-      kept = record { chained = C; once = rw more-nodes (once-new blank (nodeIs m) (nodesOf xs n) before-all (K .once)) };
+      stored = more-nodes ∙ sym (stored-new blank (nodeOf v) (nodesOf xs n) before-all);
+      kept = record { chained = C; once = rw more-nodes (once-new blank (nodeOf v) (nodesOf xs n) before-all (K .once)) };
       most = omega arith;
     }
 
   module _ (i : ℕ) (is : at ≡ At i) where
     within : i < n
-    within = lookup-lt xs (m .state .hi) (m .state .lo) i n (sym is ∙ S .looked)
-
-    state-at : isState (rowAt xs i) (m .state .hi) (m .state .lo) ≡ true
-    state-at = lookup-state xs (m .state .hi) (m .state .lo) i n (sym is ∙ S .looked)
+    within = lookup-lt xs (v .hi) (v .lo) i n (sym is ∙ S .looked)
 
     pub row-state : isState (rowAt xs i) (v .hi) (v .lo) ≡ true
-    row-state = rw (hE, lE) state-at
+    row-state = lookup-state xs (v .hi) (v .lo) i n (sym is ∙ S .looked)
 
     module _ (C : (gs : List ℕ) → Chained xs gs n → Chained ys gs n) (W : Wrote xs ys i v) where
       long : i < length (nodesOf xs n)
       long = rw (length-rows n (nodeAt xs)) within
 
-      state-is : getD (nodesOf xs n) i blank .state ≡ nodeIs m .state
-      state-is = ap (λ (x : SearchNode). x .state) (at-row xs n i within) ∙ same-state (rowAt xs i) (m .state .hi) (m .state .lo) state-at
+      state-is : getD (nodesOf xs n) i blank .state ≡ nodeOf v .state
+      state-is = ap (λ (x : SearchNode). x .state) (at-row xs n i within) ∙ same-state (rowAt xs i) (v .hi) (v .lo) row-state
 
-      set-nodes : nodesOf ys n ≡ set (nodesOf xs n) i (nodeIs m)
-      set-nodes = rows-set n (nodeAt xs) (nodeAt ys) i (λ k l ne. ap nodeOf (W .others k ne)) ∙ ap (set (nodesOf xs n) i) (ap nodeOf (W .new) ∙ vE)
+      set-nodes : nodesOf ys n ≡ set (nodesOf xs n) i (nodeOf v)
+      set-nodes = rows-set n (nodeAt xs) (nodeAt ys) i (λ k l ne. ap nodeOf (W .others k ne)) ∙ ap (set (nodesOf xs n) i) (ap nodeOf (W .new))
 
-      pub stored-update : Stored xs n (nodeIs m) ys hs n
+      pub stored-update : Stored xs n (nodeOf v) ys hs n
       stored-update = record {
-        stored = set-nodes ∙ sym (stored-at blank (nodeIs m) (nodesOf xs n) i long state-is (only-place blank (nodeIs m .state) (nodesOf xs n) i (K .once) long state-is));
-        kept = record { chained = C hs (K .chained); once = rw set-nodes (once-set blank (nodeIs m) (nodesOf xs n) i (sym state-is) (K .once)) };
+        stored = set-nodes ∙ sym (stored-at blank (nodeOf v) (nodesOf xs n) i long state-is (only-place blank (nodeOf v .state) (nodesOf xs n) i (K .once) long state-is));
+        kept = record { chained = C hs (K .chained); once = rw set-nodes (once-set blank (nodeOf v) (nodesOf xs n) i (sym state-is) (K .once)) };
         most = omega arith;
       }
+
+-- a node by its row
+module _ (xs ys hs : List ℕ) (n r : ℕ) (m : Node) (v : Row) (at : Found) (vE : nodeOf v ≡ nodeIs m) (hE : v .hi ≡ m .state .hi) (lE : v .lo ≡ m .state .lo) where
+  pub sought-row : Sought xs n (m .state .hi) (m .state .lo) at → Sought xs n (v .hi) (v .lo) at
+  sought-row S = rw (hE, lE) S
+
+  pub stored-node : Stored xs n (nodeOf v) ys hs r → Stored xs n (nodeIs m) ys hs r
+  stored-node W = rw vE at W
 
 -- ---- recalling
 

@@ -136,6 +136,21 @@ pub fn recall(nodes: &[u64], heads: &[u64], n: usize, state: PackedState) -> Kno
     Known::Is(node_of(nodes::row_at(nodes, i)))
 }
 
+// Stores a row where its state was sought; the number of nodes then.
+pub fn store_row(nodes: &mut [u64], heads: &mut [u64], n: usize, at: Found, row: Row) -> usize
+    requires { ⌜ Kept (now nodes) (now heads) n ⌝ }
+    requires { ⌜ n * 8 + 8 ≤ length (now nodes) ⌝ }
+    requires { ⌜ Sought (now nodes) n (row .hi) (row .lo) at ⌝ }
+    ensures { λ r. ⌜ Stored (now (nodes .entry)) n (nodeOf row) (now (nodes .exit)) (now (heads .exit)) r ⌝ }
+{
+    let Found::At(i) = at else {
+        nodes::insert(nodes, heads, n, row);
+        return n + 1;
+    };
+    nodes::update(nodes, n, i, row);
+    n
+}
+
 // Stores a node where its state was sought; the number of nodes then.
 pub fn store(nodes: &mut [u64], heads: &mut [u64], n: usize, at: Found, node: Node) -> usize
     requires { ⌜ Kept (now nodes) (now heads) n ⌝ }
@@ -144,12 +159,7 @@ pub fn store(nodes: &mut [u64], heads: &mut [u64], n: usize, at: Found, node: No
     ensures { λ r. ⌜ Stored (now (nodes .entry)) n (nodeIs node) (now (nodes .exit)) (now (heads .exit)) r ⌝ }
 {
     let row = row_of(node);
-    let Found::At(i) = at else {
-        nodes::insert(nodes, heads, n, row);
-        return n + 1;
-    };
-    nodes::update(nodes, n, i, row);
-    n
+    store_row(nodes, heads, n, at, row)
 }
 
 pub fn push(list: &mut [u64], m: usize, e: Entry)

@@ -1,3 +1,4 @@
 pub mod Moves
 pub mod Codes
 pub mod Told
+pub mod Bare

@@ -14,9 +14,10 @@ use Rattle.window.specs.declared.PackedState.{PackedState}
 use Rattle.window.specs.Pack.{Keys, pack}
 use Rattle.window.specs.State.{whole}
 use Rattle.window.specs.Keys.{keysOf, Window}
-use Rattle.successors.specs.Successors.{priceBy}
+use Rattle.successors.specs.Successors.{priceBy, firsts}
 use Rattle.heuristic.specs.Heuristic.{leastDup, heuristicOf}
-use Rattle.heuristic.specs.Steady.{Standing}
+use Rattle.heuristic.specs.Counts.{Counted}
+use Rattle.heuristic.specs.Steady.{Cheap, Standing}
 use Rattle.moves.specs.declared.Move.{Move}
 
 -- a step that can be made on a window of n keys, at most 21
@@ -33,6 +34,14 @@ pub record Parent (prices : List ℕ) (dup h : ℕ) (have want : List ℕ) (stat
   pub standing : Standing prices dup h have want (keysOf state) goal
   pub short : length goal ≤ 21
   pub least : dup ≡ leastDup prices dupMax
+
+-- the counts of a goal, and its keys each once
+pub record Asking (prices : List ℕ) (want keys goal : List ℕ) : Type 0 where
+  pub prices-cheap : Cheap prices
+  pub wanted : Counted want goal
+  pub goal-keys : Keys 6 goal
+  pub short : length goal ≤ 21
+  pub keys-are : keys ≡ firsts goal
 
 -- the state of a move
 abbrev pub stateOf : Move → PackedState

@@ -15,12 +15,16 @@ use Rattle.window.specs.declared.PackedState.{PackedState}
 use Rattle.window.specs.Pack.{Keys, pack}
 use Rattle.window.specs.State.{Held, whole, swapped}
 use Rattle.window.specs.Keys.{keysOf, Window, keys-length}
-use Rattle.successors.specs.Successors.{priceBy}
+use Rattle.successors.specs.Successors.{priceBy, firsts}
 use Rattle.heuristic.specs.Heuristic.{leastDup, estimate, heuristicOf, sumTo, keyTerm}
-use Rattle.heuristic.specs.Counts.{Counted, tableTerm, table-sum}
+use Rattle.heuristic.specs.Counts.{Counted, KeysFit}
+use Rattle.heuristic.specs.Bare.{bareTerm, overKeys}
+use Rattle.moves.specs.Bare.{bare-standing}
+use Rattle.successors.specs.Parts.{All}
+use Rattle.successors.specs.Limits.{firsts-keys}
 use Rattle.heuristic.specs.Steady.{Cheap, Standing, same-counts, count-swapped}
 use Rattle.moves.specs.declared.Move.{Move}
-use Rattle.moves.specs.Moves.{Doable, Parent, stateOf, Formed, Leads, Told}
+use Rattle.moves.specs.Moves.{Doable, Parent, Asking, stateOf, Formed, Leads, Told}
 use Rattle.moves.specs.Codes.{code-pop, code-dup, code-swap}
 
 -- the estimate of a window as a cost
@@ -84,15 +88,20 @@ module _ (prices : List ℕ) (dup h : ℕ) (have want : List ℕ) (state : Packe
         leads-by prices dup dupMax goal (swapped (keysOf state) d) next (17 + d) gas code r (p .least) (f (keysOf state) (p .window) l) (swap-fits state d)
         (q ∙ swap-sum prices dup h have want (keysOf state) goal d (p .standing) z l) m
 
--- the counts and the estimate made from scratch
-pub parent-is : (prices : List ℕ) (dup h : ℕ) (have want : List ℕ) (state : PackedState) (goal : List ℕ) (dupMax : ℕ) → Window state → Counted have (keysOf state) → h ≡ sumTo (tableTerm prices dup have want) 64 → Cheap prices → Counted want goal → length goal ≤ 21 → dup ≡ leastDup prices dupMax → Parent prices dup h have want state goal dupMax
-parent-is prices dup h have want state goal dupMax v a e ch b l m =
-    record {
-      window = v;
-      standing = record { prices-cheap = ch; counted = a; wanted = b; sum = e ∙ table-sum prices dup have want (keysOf state) goal a b; size = omega (arith, keys-length state) };
-      short = l;
-      least = m;
-    }
+all-at : (P : ℕ → Type 0) (xs : List ℕ) → All P xs → (i : ℕ) → i < length xs → P (getD xs i 0)
+all-at P [] h i l = absurd (omega arith)
+all-at P (x ∷ xs) h zero l = h .0
+all-at P (x ∷ xs) h (suc i) l = all-at P xs (h .1) i (omega arith)
+
+-- the keys of an asked goal are below 64
+pub asking-fit : (prices want keys goal : List ℕ) → Asking prices want keys goal → KeysFit keys
+asking-fit prices want keys goal a = rw (a .keys-are) (all-at (λ k. k < 64) (firsts goal) (firsts-keys goal (a .goal-keys)))
+
+pub asking-bare : (prices : List ℕ) (dup h : ℕ) (have want keys goal : List ℕ) → Counted have [] → Asking prices want keys goal → h ≡ overKeys (bareTerm prices dup want) keys → Standing prices dup h have want [] goal
+asking-bare prices dup h have want keys goal c a e = bare-standing prices dup want goal (a .wanted) h have keys c (a .prices-cheap) (a .goal-keys) (a .short) (a .keys-are) e
+
+pub parent-is : (prices : List ℕ) (dup h : ℕ) (have want : List ℕ) (state : PackedState) (goal : List ℕ) (dupMax : ℕ) → Window state → Standing prices dup h have want (keysOf state) goal → length goal ≤ 21 → dup ≡ leastDup prices dupMax → Parent prices dup h have want state goal dupMax
+parent-is prices dup h have want state goal dupMax v s l m = record { window = v; standing = s; short = l; least = m }
 
 -- ---- what is told of a step, by what its code led to
 

@@ -14,8 +14,7 @@ ghost use Rattle.window.specs.State.{Held, swapped};
 ghost use Rattle.window.specs.Keys.{keysOf, Window};
 ghost use Rattle.heuristic.specs.Counts.{Counted};
 ghost use Rattle.heuristic.specs.Heuristic.{leastDup};
-ghost use Rattle.heuristic.specs.Steady.{Cheap};
-ghost use Rattle.moves.specs.Moves.{Doable, Parent, Formed, Leads, Told};
+ghost use Rattle.moves.specs.Moves.{Doable, Parent, Asking, Formed, Leads, Told};
 
 pub struct Move {
     pub hi: u64,
@@ -127,11 +126,18 @@ pub fn follow(
     )
 }
 
-// The estimate of a state, and the counts of its keys, into a table of zeros.
-pub fn standing(state: PackedState, want: &[u8], dup: u32, prices: &[u32], have: &mut [u8]) -> u32
-    requires { ⌜ Window state × Counted (now have) [] × (length (now want) ≡ 64) ⌝ }
-    ensures { λ h. ⌜ ((goal : List ℕ) → (dupMax : ℕ) → Cheap (now (prices .entry)) → Counted (now (want .entry)) goal → length goal ≤ 21 → dup ≡ leastDup (now (prices .entry)) dupMax → Parent (now (prices .entry)) dup h (now (have .exit)) (now (want .entry)) state goal dupMax) ⌝ }
+// The estimate of a state, and the counts of its keys, into a table of zeros. The keys are the goal's, each once.
+pub fn standing(
+    state: PackedState,
+    keys: &[u8],
+    want: &[u8],
+    dup: u32,
+    prices: &[u32],
+    have: &mut [u8],
+) -> u32
+    requires { ⌜ Window state × Counted (now have) [] × ((goal : List ℕ) × Asking (now prices) (now want) (now keys) goal) ⌝ }
+    ensures { λ h. ⌜ ((goal : List ℕ) → (dupMax : ℕ) → Asking (now (prices .entry)) (now (want .entry)) (now (keys .entry)) goal → dup ≡ leastDup (now (prices .entry)) dupMax → Parent (now (prices .entry)) dup h (now (have .exit)) (now (want .entry)) state goal dupMax) ⌝ }
 {
-    heuristic::count_window(state, have);
-    heuristic::sum_of(have, want, dup, prices)
+    let base = heuristic::bare(keys, want, dup, prices);
+    heuristic::standing(state, base, want, dup, prices, have)
 }

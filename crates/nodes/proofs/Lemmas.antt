@@ -3,8 +3,8 @@ use mathlib.Core.Path.{_≡_, refl, sym, ap, _∙_, subst}
 use mathlib.Core.Logic.{_⊎_, inl, inr, ⊎-elim}
 use mathlib.Core.Bool.{Bool, true, false}
 use mathlib.Core.List.{List, [], _∷_}
-use Prim.Native.Nat.{ℕ, zero, suc, _+_, _*_, _≤_, _<_}
-use native.Mathlib.Nat.{add-zero, add-suc, suc-add, mod-lt, eq-or-lt-of-le, le-of-suc-le-suc}
+use Prim.Native.Nat.{ℕ, zero, suc, _+_, _*_, _/_, _^_, _≤_, _<_, min}
+use native.Mathlib.Nat.{add-zero, add-suc, suc-add, mod-lt, mul-lt-mul-of-pos-right, mul-le-mul, eq-or-lt-of-le, le-of-suc-le-suc}
 use native.Mathlib.Omega.{arith}
 use native.Mathlib.Decide.{ℕ-discrete, decLt}
 use native.Mathlib.Numerals.{add-one}
@@ -17,9 +17,22 @@ use Rattle.nodes.specs.declared.Found.{Found}
 use Rattle.nodes.specs.declared.Found.the-variants.{At, Nothing}
 use Rattle.nodes.specs.Nodes.{rowAt, stores, written, rows, both, isState, pick, lookup, bucketOf, bucketAt, Led, Leads, Chained, replaced, rowOf, Wrote}
 
+pub scaled-fits : (k w : ℕ) → k < 4294967296 → w ≤ 4294967295 → k * w < 2 ^ 64
+scaled-fits k w l h =
+    let b : k ≤ 4294967295 = omega arith in
+    let p : k * w ≤ 18446744065119617025 = mul-le-mul b h in
+    omega arith
+
+-- a number of 32 bits, scaled to m, is below m
+scaled : (k m : ℕ) → k < 4294967296 → 0 < m → k * min m 4294967295 / 2 ^ 32 < m
+scaled k m l h =
+    let w : 0 < min m 4294967295 = omega arith in
+    let p : k * min m 4294967295 < 4294967296 * min m 4294967295 = mul-lt-mul-of-pos-right l w in
+    omega arith
+
 pub bucket-lt : (hi lo m : ℕ) → 0 < m → bucketOf hi lo m < m
 unfolding bucketOf
-bucket-lt hi lo m h = mod-lt _ h
+bucket-lt hi lo m h = scaled _ m (mod-lt _ (omega arith)) h
 
 true-false : true ≡ false → ⊥
 true-false e = let z : _≡_ {A = ℕ} 0 1 = cc in omega arith

@@ -4,7 +4,7 @@
 use mathlib.Core.Path.{_≡_}
 use mathlib.Core.Bool.{Bool, true, false}
 use mathlib.Core.List.{List, [], _∷_}
-use Prim.Native.Nat.{ℕ, zero, suc, _+_, _*_, _/_, _%_, _^_, _≤_, _<_}
+use Prim.Native.Nat.{ℕ, zero, suc, _+_, _*_, _/_, _%_, _^_, _≤_, _<_, min}
 use lib.ListN.{length, getD, set}
 use lib.Dec.{eqb}
 use lib.Bits.{bitXor}
@@ -74,11 +74,13 @@ replaced (q ∷ rs) i r = pickRows (eqb (length rs) i) (r ∷ rs) (q ∷ replace
 mixed : ℕ → ℕ
 mixed h = bitXor h (h / 2 ^ 32)
 
--- the bucket of a state, of m
+-- the bucket of a state, of m: a number of 32 bits, scaled to m
 unfoldable pub bucketOf : ℕ → ℕ → ℕ → ℕ
 unfolding mixed
 bucketOf hi lo m =
-    mixed (bitXor (bitXor (bitXor (lo % 4294967296 * 2654435769) (lo / 2 ^ 32 * 2246822519)) (hi % 4294967296 * 3266489917)) (hi / 2 ^ 32 * 668265263)) % m
+    mixed (bitXor (bitXor (bitXor (lo % 4294967296 * 2654435769) (lo / 2 ^ 32 * 2246822519)) (hi % 4294967296 * 3266489917)) (hi / 2 ^ 32 * 668265263)) % 4294967296
+    * min m 4294967295
+    / 2 ^ 32
 
 abbrev pub bucketAt : List ℕ → ℕ → ℕ → ℕ
 bucketAt xs m i = bucketOf (getD xs (i * 8) 0) (getD xs (i * 8 + 1) 0) m

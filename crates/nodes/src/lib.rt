@@ -1,7 +1,7 @@
 // The node list: a map from a state (hi, lo) to what the search knows of it, in two lent lists of numbers. Node i stands at
 // i * 8: hi, lo, cost, parent hi, parent lo, step, next, spare. `heads` has a bucket at each place, and needs no clearing.
 ghost use mathlib.Core.Path.{_≡_};
-ghost use Prim.Native.Nat.{ℕ, _+_, _*_, _<_, _≤_};
+ghost use Prim.Native.Nat.{ℕ, _+_, _*_, _<_, _≤_, min};
 ghost use mathlib.Core.List.{List, _∷_};
 ghost use mathlib.Core.Bool.{true};
 ghost use lib.ListN.{length, getD};
@@ -22,8 +22,14 @@ pub struct Row {
     pub step: u64,
 }
 
+// A length as a factor of 32 bits.
+fn width(m: usize) -> u64
+    ensures { λ r. ⌜ r ≡ min m 4294967295 ⌝ }
+{
+    if m < 4294967295 { m as u64 } else { 4294967295 }
+}
+
 fn bucket(hi: u64, lo: u64, m: usize) -> usize
-    requires { ⌜ 0 < m ⌝ }
     ensures { λ r. ⌜ r ≡ bucketOf hi lo m ⌝ }
 {
     let a = (lo % 4294967296) * 2654435769;
@@ -31,8 +37,8 @@ fn bucket(hi: u64, lo: u64, m: usize) -> usize
     let c = (hi % 4294967296) * 3266489917;
     let d = (hi >> 32) * 668265263;
     let h = a ^ b ^ c ^ d;
-    let k = h ^ (h >> 32);
-    (k % (m as u64)) as usize
+    let k = (h ^ (h >> 32)) % 4294967296;
+    index((k * width(m)) >> 32)
 }
 
 fn index(x: u64) -> usize

@@ -15,9 +15,8 @@ use Rattle.astar.specs.Search.{Problem, Succ, Entry, Work, Hand, find, store, p
 use Rattle.heap.specs.declared.Entry.{Entry as Waiting}
 use Rattle.nodes.specs.declared.Found.{Found}
 use Rattle.nodes.specs.declared.Found.the-variants.{At, Nothing}
-use Rattle.lists.specs.View.{SearchNode, parentIs, parentOf, nodeIs, nodesOf, queueOf, waits, nodeFound, Kept, Piled, Sought, Stored, Pushed}
-use Rattle.lists.specs.declared.Node.{Node}
-use Rattle.lists.specs.declared.Parent.{Parent}
+use Rattle.lists.specs.View.{SearchNode, parentOf, nodeOf as nodeOfRow, nodesOf, queueOf, waits, nodeFound, Kept, Piled, Sought, Stored, Pushed}
+use Rattle.nodes.specs.declared.Row.{Row}
 use Rattle.lists.proofs.Nodes.{there-room}
 use Rattle.lists.proofs.Rows.{code-parent}
 use Rattle.offer.specs.Rules.{estimated, bare}
@@ -38,23 +37,20 @@ entry-eq e f = cc
 work-eq : {a b : List SearchNode} {c d : List (Entry Cost)} → a ≡ b → c ≡ d → _≡_ {A = Work Cost ℕ} (record { nodes = a; queue = c }) (record { nodes = b; queue = d })
 work-eq e f = cc
 
-pub made : (p : Origin) (x : Successor) (g : ℕ) (o : Parent) → parentIs o ≡ parentOf (p .state .hi) (p .state .lo) (x .step) → nodeIs (record { state = x .state; cost = g; parent = o }) ≡ nodeFor p x g
-made p x g o e = node-eq refl e
-
 -- ---- admit
 
 pub all-inside : (xs hs : List ℕ) (n hi lo : ℕ) (at : Found) → Kept xs hs n → Sought xs n hi lo at → Inside xs at
 all-inside xs hs n hi lo at K S i e = there-room xs n hi lo i at e S hs K
 
-pub sought-node : (xs : List ℕ) (n : ℕ) (p : Origin) (x : Successor) (g : ℕ) (at : Found) (m : Node) → Sought xs n (x .state .hi) (x .state .lo) at → m .state ≡ x .state → Sought xs n (m .state .hi) (m .state .lo) at
-sought-node xs n p x g at m S e = rw e S
+pub sought-row : (xs : List ℕ) (n : ℕ) (x : Successor) (at : Found) (v : Row) → Sought xs n (x .state .hi) (x .state .lo) at → v .hi ≡ x .state .hi → v .lo ≡ x .state .lo → Sought xs n (v .hi) (v .lo) at
+sought-row xs n x at v S e f = rw (e, f) S
 
 module _ (xs : List ℕ) (n : ℕ) (p : Origin) (x : Successor) (g : ℕ) (at : Found) (t : Bool) (S : Sought xs n (x .state .hi) (x .state .lo) at) (b : t ≡ better gas-bytes (bare 0 0) (costOf g) (nodeFound xs at)) where
   told-is : t ≡ better gas-bytes (bare 0 0) (costOf g) (find (whole (x .state)) (nodesOf xs n))
   told-is = b ∙ ap (better gas-bytes (bare 0 0) (costOf g)) (S .found)
 
-  pub admitted : (ys hs : List ℕ) (r : ℕ) (m : Node) → t ≡ true → nodeIs m ≡ nodeFor p x g → Stored xs n (nodeIs m) ys hs r → Admitted xs n (nodeFor p x g) ys hs (record { stored = true; nodes = r })
-  admitted ys hs r m y e W = record { told = sym y ∙ told-is; nodes-are = W .stored ∙ ap (λ (v : SearchNode). store v (nodesOf xs n)) e; kept = W .kept; most = W .most }
+  pub admitted : (ys hs : List ℕ) (r : ℕ) (v : Row) → t ≡ true → nodeOfRow v ≡ nodeFor p x g → Stored xs n (nodeOfRow v) ys hs r → Admitted xs n (nodeFor p x g) ys hs (record { stored = true; nodes = r })
+  admitted ys hs r v y e W = record { told = sym y ∙ told-is; nodes-are = W .stored ∙ ap (λ (v : SearchNode). store v (nodesOf xs n)) e; kept = W .kept; most = W .most }
 
   pub not-admitted : (hs : List ℕ) → t ≡ false → Kept xs hs n → Admitted xs n (nodeFor p x g) xs hs (record { stored = false; nodes = n })
   not-admitted hs f K = record { told = sym f ∙ told-is; nodes-are = refl; kept = K; most = omega arith }

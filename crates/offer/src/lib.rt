@@ -5,13 +5,13 @@ ghost use lib.ListN.{length};
 ghost use Rattle.costs.specs.Packed.{costOf};
 ghost use Rattle.algebra.specs.GasBytes.{«gas-bytes»};
 ghost use Rattle.astar.specs.Search.{cut as cuts, «record-goal» as recorded, better};
-ghost use Rattle.lists.specs.View.{nodeIs, nodeFound, Kept, Piled};
+ghost use Rattle.lists.specs.View.{nodeOf, nodeFound, Kept, Piled};
 ghost use Rattle.offer.specs.Rules.{bare};
 ghost use Rattle.offer.specs.View.{sum, IsCode, handOf, workOf, Inside, nodeFor, Admitted, Now, offered};
 use costs::Cost;
 use heap::Entry;
-use lists::Node;
 use nodes::Found;
+use nodes::Row;
 use window::PackedState;
 
 // A successor: its state, the step's price, the state's estimate, and the step's code.
@@ -95,18 +95,21 @@ fn cheaper(nodes: &[u64], at: Found, g: u64) -> bool
     g < nodes::cost(nodes, i)
 }
 
-// The node of the successor x of p at cost g.
-fn node_for(p: Origin, x: Successor, g: u64) -> Node
-    ensures { λ r. ⌜ nodeIs r ≡ nodeFor p x g ⌝ }
-    ensures { λ r. ⌜ r .state ≡ x .state ⌝ }
+// The row of the successor x of p at cost g.
+fn row_for(p: Origin, x: Successor, g: u64) -> Row
+    ensures { λ r. ⌜ nodeOf r ≡ nodeFor p x g ⌝ }
+    ensures { λ r. ⌜ r .hi ≡ x .state .hi ⌝ }
+    ensures { λ r. ⌜ r .lo ≡ x .state .lo ⌝ }
 {
     let from = p.state;
     let state = x.state;
-    let parent = lists::parent_by(from, x.step);
-    Node {
-        state: state,
+    Row {
+        hi: state.hi,
+        lo: state.lo,
         cost: g,
-        parent: parent,
+        phi: from.hi,
+        plo: from.lo,
+        step: x.step as u64,
     }
 }
 
@@ -126,8 +129,8 @@ pub fn admit(
     let state = x.state;
     let at = lists::find(nodes, heads, n, state);
     if cheaper(nodes, at, g) {
-        let node = node_for(p, x, g);
-        let more = lists::store(nodes, heads, n, at, node);
+        let row = row_for(p, x, g);
+        let more = lists::store_row(nodes, heads, n, at, row);
         return Admission {
             stored: true,
             nodes: more,

@@ -23,6 +23,7 @@ use Rattle.heuristic.specs.Counts.{Counted}
 use Rattle.heuristic.specs.Steady.{Cheap, cheap}
 use Rattle.problem.specs.Problem.{edge, edgesFrom, problemOf}
 use Rattle.problem.specs.Replays.{operand-fits}
+use Rattle.moves.specs.Moves.{Asking}
 use Rattle.moves.specs.Codes.{Coded, expansion-coded}
 use Rattle.offer.specs.View.{workOf, Now}
 use Rattle.offer.specs.declared.Held.{Held}
@@ -53,11 +54,14 @@ module _ (s : Setup) (t prices : List ℕ) (R : Ready s t prices) where
   pub parts-told : (state : PackedState) (last : ℕ) (xs ys : List ℕ) (r : ℕ) → Expanded (asked (s .cfg) (take 64 t) prices (take (128 + s .goal - 128) (drop 128 t))) (keysOf state) last xs ys r → Expanded (questionOf s t prices) (keysOf state) last xs ys r
   parts-told state last xs ys r E = rw goal-part at E
 
-  pub prices-cheap : Cheap prices
+  prices-cheap : Cheap prices
   prices-cheap = cheap prices (R .listed)
 
-  pub goal-short : length (goalIn s t) ≤ 21
+  goal-short : length (goalIn s t) ≤ 21
   goal-short = omega (arith, R .bounds .goal)
+
+  pub asking : Asking prices (wantIn t) (take (128 + s .goal + s .keys - (128 + s .goal)) (drop (128 + s .goal) t)) (goalIn s t)
+  asking = rw keys-part (record { prices-cheap = prices-cheap; wanted = R .wanted; goal-keys = R .bounds .keys; short = goal-short; keys-are = R .firsts-are })
 
   pub want-long : length (take 64 (drop 64 t)) ≡ 64
   want-long = R .wanted .size

@@ -148,7 +148,16 @@ fn standing(state: PackedState, setup: Setup, table: &[u8], prices: &[u32], have
     requires { ⌜ Counted (now have) [] ⌝ }
     ensures { λ h. ⌜ Expanding (now (prices .entry)) (setup .dup) h (now (have .exit)) (wantIn (now (table .entry))) state (goalIn setup (now (table .entry))) (setup .cfg .«dup_max») ⌝ }
 {
-    moves::standing(state, &table[64..128], setup.dup, prices, have)
+    let mid = 128 + setup.goal;
+    let end = mid + setup.keys;
+    moves::standing(
+        state,
+        &table[mid..end],
+        &table[64..128],
+        setup.dup,
+        prices,
+        have,
+    )
 }
 
 // Expands p, where last is the depth of the Swap that led to it or 0: offers its successors in order.

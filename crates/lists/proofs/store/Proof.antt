@@ -1,27 +1,17 @@
-use Rattle.lists.proofs.Nodes.{stored-insert, stored-update, there-lt, row-state}
+use Rattle.lists.proofs.Nodes.{sought-row, stored-node}
 use borrow.Author.Needs.{needs}
 use Rattle.lists.proofs.store.Statement.{statement}
 use Rattle.lists.proofs.store.Tie as tie
 use Rattle.lists.proofs.store.Reads as reads
 use Rattle.lists.proofs.store.Lts as lts
 use Rattle.lists.proofs.row_of.Reads as row-of-reads
-use Rattle.nodes.proofs.insert.Reads as insert-reads
-use Rattle.nodes.proofs.update.Reads as update-reads
+use Rattle.lists.proofs.store_row.Reads as store-row-reads
 
 row-of-requires : tie.Need-row-of-requires
 row-of-requires c κs = search needs
 
-enum-known-at : tie.Need-enum-known-at
-enum-known-at c = search needs
-
-enum-told : tie.Need-enum-told
-enum-told c = search needs
-
-insert-requires : tie.Need-insert-requires
-insert-requires c κs = search needs
-
-add-result : tie.Need-add-result
-add-result c = search needs
+store-row-requires : tie.Need-store-row-requires
+store-row-requires c κs = (search needs, (search needs, search sought-row))
 
 same-length : tie.Need-same-length
 same-length c = search needs
@@ -30,29 +20,8 @@ same-length-2 : tie.Need-same-length-2
 same-length-2 c = search needs
 
 returns : tie.Need-returns
-returns c = search stored-insert
-
-update-requires : tie.Need-update-requires
-update-requires c κs = (search needs, (search there-lt, search row-state))
-
-same-length-3 : tie.Need-same-length-3
-same-length-3 c = search needs
-
-returns-2 : tie.Need-returns-2
-returns-2 c = search stored-update
+returns c = search stored-node
 
 pub store-spec : {M : Type 1} → statement M
 store-spec =
-    tie.close
-    (tie.spec
-    row-of-requires
-    enum-known-at
-    enum-told
-    insert-requires
-    add-result
-    same-length
-    same-length-2
-    returns
-    update-requires
-    same-length-3
-    returns-2)
+    tie.close (tie.spec row-of-requires store-row-requires same-length same-length-2 returns)

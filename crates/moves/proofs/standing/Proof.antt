@@ -1,24 +1,30 @@
-use Rattle.moves.specs.Told.{parent-is}
+use Rattle.moves.specs.Told.{asking-fit, asking-bare, parent-is}
 use borrow.Author.Needs.{needs}
 use Rattle.moves.proofs.standing.Statement.{statement}
 use Rattle.moves.proofs.standing.Tie as tie
 use Rattle.moves.proofs.standing.Reads as reads
 use Rattle.moves.proofs.standing.Lts as lts
-use Rattle.heuristic.proofs.count_window.Reads as count-window-reads
-use Rattle.heuristic.proofs.sum_of.Reads as sum-of-reads
+use Rattle.heuristic.proofs.bare.Reads as bare-reads
+use Rattle.heuristic.proofs.standing.Reads as standing-reads
 
-count-window-requires : tie.Need-count-window-requires
-count-window-requires c κs = search needs
+bare-requires : tie.Need-bare-requires
+bare-requires c κs =
+    let s = c .before .before .before .before in
+    (asking-fit _ _ _ _ (s .pre .2 .1), s .pre .2 .1 .wanted .size)
 
-sum-of-requires : tie.Need-sum-of-requires
-sum-of-requires c κs = search needs
+standing-requires : tie.Need-standing-requires
+standing-requires c κs =
+    let s = c .before .before .before .before .before .before in
+    let a = s .pre .2 in
+    (s .pre .0, (a .0, asking-bare _ _ _ _ _ _ (a .0) (s .pre .1) (a .1) (c .before .bare .ensures), a .1 .short))
 
 same-length : tie.Need-same-length
 same-length c = search needs
 
 returns : tie.Need-returns
-returns c = λ goal dupMax ch b l m. let s = c .before .before .before .before .before .before .before .before .before in
-    parent-is _ _ _ _ _ _ goal dupMax (s .pre .0) (c .before .before .before .before .count-window .ensures) (c .sum-of .ensures) ch b l m
+returns c = λ goal dupMax a m.
+    let s = c .before .before .before .before .before .before .before .before .before in
+    parent-is _ _ _ _ _ _ goal dupMax (s .pre .0) (c .before .before .standing .ensures goal (asking-bare _ _ _ _ _ _ goal (s .pre .1) a (c .before .before .before .before .bare .ensures)) (a .short)) (a .short) m
 
 pub standing-spec : {M : Type 1} → statement M
-standing-spec = tie.close (tie.spec count-window-requires sum-of-requires same-length returns)
+standing-spec = tie.close (tie.spec bare-requires standing-requires same-length returns)
