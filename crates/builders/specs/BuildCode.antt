@@ -20,8 +20,8 @@ use Rattle.builders.specs.Dup.{andThen, trimmed, filled, finished, dupAn
 use Rattle.builders.specs.Tail.{notTail, deleteTail, tailPlan}
 use Rattle.builders.specs.TailLaws.{IsTail}
 use Rattle.builders.specs.TailCode.{tail-fits, tail-own}
-use Rattle.builders.specs.declared.Work.{Work}
-use Rattle.builders.specs.declared.Tried.{Tried}
+use Rattle.builders.specs.Area.{Work}
+use Rattle.builders.specs.Area.{Tried}
 use Rattle.builders.specs.declared.Built.{Built}
 use Rattle.builders.specs.declared.Built.the-variants.{Plan, Nothing}
 use Rattle.builders.specs.TrimCode.{Fit, TrimDone, triedOf}

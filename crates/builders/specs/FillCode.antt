@@ -1,11 +1,12 @@
 -- What dup-and-star's second phase needs and gives: copies, keys made, and the missing keys in rising order.
-use Prim.Native.Nat.{ℕ, suc, _+_, _-_, _*_, _<_, _≤_}
+use Prim.Native.Nat.{ℕ, zero, suc, _+_, _-_, _*_, _<_, _≤_}
 use mathlib.Core.Bool.{Bool, true, false, not, _&&_}
 use mathlib.Core.List.{List}
 use mathlib.Core.Option.{Option, none, some}
-use mathlib.Core.Path.{_≡_, refl, ap, sym, _∙_}
+use mathlib.Core.Path.{_≡_, refl, ap, sym, subst, _∙_}
 use native.Mathlib.Omega.{arith}
 use native.Mathlib.Numerals.{add-one}
+use native.Mathlib.Decide.{ℕ-discrete}
 use borrow.Author.Tests.{lt-ltb, le-ltb, eq-eqb, ne-eqb}
 use lib.ListN.{length, getD}
 use lib.Dec.{eqb}
@@ -24,8 +25,8 @@ use Rattle.star_swap.specs.Routable.{Small}
 use Rattle.builders.specs.Small.{Tame}
 use Rattle.builders.specs.Work.{draftOf, lengthAfter, Acted}
 use Rattle.builders.specs.Dup.{andThen, made, placeOf, copied, added, addedTimes, filled}
-use Rattle.builders.specs.declared.Work.{Work}
-use Rattle.builders.specs.declared.Tried.{Tried}
+use Rattle.builders.specs.Area.{Work}
+use Rattle.builders.specs.Area.{Tried}
 use Rattle.builders.specs.TrimCode.{Fit, acted-small, firstAt-low, triedOf}
 
 -- a work area that is being filled
@@ -169,6 +170,27 @@ module _ (n : ℕ) (q : Rules) (k : ℕ) (w₀ : Work) where
     pub adding-last : n ≤ i → TimesDone n q k w₀ (record { ok = true; work = w })
     adding-last l = record { is = sym (sym (v .left) ∙ times-none q k n i (draftOf w) l); room = v .room }
 
+-- no key from k to m, m left out, is wanted
+pub record Unwanted (a : List ℕ) (k m : ℕ) : Type 0 where
+  pub low : k ≤ m
+  pub high : m ≤ 64
+  pub idle : (i : ℕ) → k ≤ i → i < m → getD a i 0 ≡ 0
+
+pub unwanted-first : (a : List ℕ) (k : ℕ) → k ≤ 64 → Unwanted a k k
+unwanted-first a k h = record { low = omega arith; high = h; idle = λ i l g. absurd (omega arith) }
+
+pub unwanted-next : (a : List ℕ) (k m : ℕ) → Unwanted a k m → m < 64 → getD a m 0 ≡ 0 → Unwanted a k (m + 1)
+unwanted-next a k m u h e =
+    record {
+      low = omega (arith, u .low);
+      high = omega arith;
+      idle = λ i l g.
+          elim (ℕ-discrete i m) [
+            | yes s ↦ ap (λ (j : ℕ). getD a j 0) s ∙ e
+            | no s ↦ u .idle i l (omega arith)
+          ];
+    }
+
 -- the keys in rising order
 pub record FillDone (q : Rules) (goal : List ℕ) (w : Work) (r : Tried) : Type 0 where
   pub is : triedOf r ≡ filled 64 0 q goal (draftOf w)
@@ -205,6 +227,24 @@ module _ (q : Rules) (goal : List ℕ) (w₀ : Work) where
     pub filling-none : r .ok ≡ false → FillDone q goal w₀ (record { ok = false; work = r .work })
     filling-none g =
         record { is = sym (sym (v .left) ∙ fill-one ∙ ap (λ (o : Option Draft). andThen o (filled (64 - (k + 1)) (k + 1) q goal)) (no-is r g)); room = t .room }
+
+  -- keys that are not wanted are passed over
+  fill-idle : (w : Work) (k : ℕ) → Filling q goal w₀ w k → k < 64 → (a : List ℕ) → Counts goal a → getD a k 0 ≡ 0 → Filling q goal w₀ w (k + 1)
+  fill-idle w k v l a c e =
+      filling-next w k v l a c 0 (omega (arith, e)) (record { ok = true; work = w })
+      (record { is = sym (times-none q k 0 0 (draftOf w) (omega arith)); room = v .room }) refl
+
+  passed-by : (w : Work) (a : List ℕ) → Counts goal a → (k n : ℕ) → Filling q goal w₀ w k → Unwanted a k (k + n) → Filling q goal w₀ w (k + n)
+  passed-by w a c k zero v u = subst (Filling q goal w₀ w) {x = k} {y = k + 0} (omega arith) v
+  passed-by w a c k (suc n) v u =
+      subst (Filling q goal w₀ w) {x = k + 1 + n} {y = k + suc n} (omega arith)
+      (passed-by w a c (k + 1) n (fill-idle w k v (omega (arith, u .high)) a c (u .idle k (omega arith) (omega arith)))
+      (record { low = omega arith; high = omega (arith, u .high); idle = λ i h g. u .idle i (omega arith) (omega arith) }))
+
+  pub filling-passed : (w : Work) (a : List ℕ) → Counts goal a → (k m : ℕ) → Filling q goal w₀ w k → Unwanted a k m → Filling q goal w₀ w m
+  filling-passed w a c k m v u =
+      let e : k + (m - k) ≡ m = omega (arith, u .low) in
+      subst (Filling q goal w₀ w) e (passed-by w a c k (m - k) v (subst (Unwanted a k) (sym e) u))
 
   pub filling-last : (w : Work) (k : ℕ) → Filling q goal w₀ w k → 64 ≤ k → FillDone q goal w₀ (record { ok = true; work = w })
   filling-last w k v l = record { is = sym (sym (v .left) ∙ fill-none k (draftOf w) l); room = v .room }

@@ -12,3 +12,4 @@ pub mod TrimCode
 pub mod FillCode
 pub mod BuildCode
 pub mod Theorems
+pub mod Area

@@ -27,7 +27,7 @@ use Rattle.star_swap.specs.Check.{Taken, taken, goal-window}
 use Rattle.star_swap.specs.Call.{written-refused, written-given}
 use Rattle.star_swap.specs.declared.Written.{Written}
 use Rattle.builders.specs.Work.{draftOf, Begun, CanBury, Buried, CanPop, Popped, CanRoute, Wrote}
-use Rattle.builders.specs.declared.Work.{Work}
+use Rattle.builders.specs.Area.{Work}
 
 -- what is left of both decides
 pub record Beginning (goal start : List ℕ) (i : ℕ) : Type 0 where

@@ -23,8 +23,8 @@ use Rattle.star_swap.specs.Routable.{Small, small-at}
 use Rattle.builders.specs.Small.{Tame}
 use Rattle.builders.specs.Work.{draftOf, Acted}
 use Rattle.builders.specs.Dup.{firstAt, surplus, surplusAt, dropAt, within, trimmed}
-use Rattle.builders.specs.declared.Work.{Work}
-use Rattle.builders.specs.declared.Tried.{Tried}
+use Rattle.builders.specs.Area.{Work}
+use Rattle.builders.specs.Area.{Tried}
 
 -- a work area, if the builder has come so far
 abbrev pub triedOf : Tried → Option Draft

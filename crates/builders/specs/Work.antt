@@ -15,7 +15,8 @@ use Rattle.replay.specs.declared.stack.Stack.{Stack}
 use Rattle.star_swap.specs.StarCode.{Pair}
 use Rattle.builders.specs.Draft.{Draft, fresh, does}
 use Rattle.builders.specs.Tail.{bury, pops}
-use Rattle.builders.specs.declared.Work.{Work}
+use Rattle.builders.specs.Area.{Work, workOf, Fresh}
+use Rattle.builders.specs.declared.Place.{Place}
 
 abbrev pub draftOf : Work → Draft
 draftOf w = record { window = keysOf (w .stack); steps = take (w .count) (w .steps) }
@@ -169,3 +170,7 @@ pub record Wrote (w : Work) (plan : List ℕ) : Type 0 where
   pub count : w .count ≡ length plan
   pub room : w .count ≤ 128
   pub full : length (w .steps) ≡ 128
+
+pub fresh-begun : (start steps : List ℕ) (p : Place) → Fresh start p → length steps ≡ 128 → Begun start (workOf p steps)
+fresh-begun start steps p f h =
+    record { draft = rw (f .none, f .window); count = f .none; size = sym (length-keys (p .stack)) ∙ ap length (f .window); full = h }

@@ -21,21 +21,21 @@ ghost use Rattle.star_swap.specs.Check.{Window, Counts};
 ghost use Rattle.star_swap.specs.Routable.{Small};
 ghost use Rattle.builders.specs.Dup.{firstAt, placeOf, surplusAt, dropAt, within, trimmed, made, added, addedTimes, filled, finished, dupAndStar};
 ghost use Rattle.builders.specs.TrimCode.{triedOf, moreThan, Fit, Dropped, TrimDone};
-ghost use Rattle.builders.specs.FillCode.{Room, Copied, AddDone, TimesDone, FillDone};
+ghost use Rattle.builders.specs.FillCode.{Room, Copied, AddDone, TimesDone, Unwanted, FillDone};
 ghost use Rattle.builders.specs.BuildCode.{Gives, completed};
-ghost use Rattle.builders.specs.Work.{draftOf, Begun, Acted, CanBury, Buried, CanPop, Popped, CanRoute, Wrote};
+ghost use Rattle.builders.specs.Area.{workOf, reachOf, Fresh};
+ghost use Rattle.builders.specs.Work.{draftOf, Acted, CanBury, Buried, CanPop, Popped, CanRoute, Wrote};
 
-// A plan while it is built: the window that its steps lead to, and the steps so far.
-pub struct Work {
+// Where the steps so far lead to: the window and the number of the steps. The steps stand in a list of 128 places.
+pub struct Place {
     pub stack: Stack,
-    pub steps: [u16; 128],
     pub count: usize,
 }
 
-// A plan while it is built, and whether the builder has come so far.
-pub struct Tried {
+// Where a builder is, and whether it has come so far.
+pub struct Reach {
     pub ok: bool,
-    pub work: Work,
+    pub at: Place,
 }
 
 // What a builder answers: the number of its steps, or that it has none.
@@ -45,80 +45,70 @@ pub enum Built {
 }
 
 // No step yet.
-fn begin(start: &[u8]) -> Work
+fn begin(start: &[u8]) -> Place
     requires { ⌜ length (now start) ≤ 21 ⌝ }
-    ensures { λ r. ⌜ Begun (now (start .entry)) r ⌝ }
+    ensures { λ r. ⌜ Fresh (now (start .entry)) r ⌝ }
 {
-    Work {
+    Place {
         stack: replay::load(start),
-        steps: [0; 128],
         count: 0,
     }
 }
 
 // One step more.
-fn act(work: Work, step: Step) -> Work
-    requires { ⌜ Ready step (work .stack .len) × (work .count < 128) ⌝ }
-    ensures { λ r. ⌜ Acted step work r ⌝ }
+fn act(work: Place, step: Step, steps: &mut [u16]) -> Place
+    requires { ⌜ Ready step (work .stack .len) × (work .count < 128) × (length (now steps) ≡ 128) ⌝ }
+    ensures { λ r. ⌜ Acted step (workOf work (now (steps .entry))) (workOf r (now (steps .exit))) ⌝ }
 {
-    let stack = work.stack;
-    let mut steps = work.steps;
     let n = work.count;
     steps[n] = costs::code(step);
-    Work {
-        stack: replay::moved(stack, step),
-        steps,
+    Place {
+        stack: replay::moved(work.stack, step),
         count: n + 1,
     }
 }
 
 // The first n keys of the window, each swapped below the keys to delete, with a Pop for each.
-fn bury_keys(work: Work, n: usize) -> Work
-    requires { ⌜ CanBury work n ⌝ }
-    ensures { λ r. ⌜ Buried work n r ⌝ }
+fn bury_keys(work: Place, n: usize, steps: &mut [u16]) -> Place
+    requires { ⌜ CanBury (workOf work (now steps)) n × (length (now steps) ≡ 128) ⌝ }
+    ensures { λ r. ⌜ Buried (workOf work (now (steps .entry))) n (workOf r (now (steps .exit))) ⌝ }
 {
     let mut w = work;
     let mut i: usize = 0;
     while i < n {
         let stack = w.stack;
         let d = (stack.len - 1 - i) as u8;
-        w = act(w, Step::Swap(d));
-        w = act(w, Step::Pop);
+        w = act(w, Step::Swap(d), steps);
+        w = act(w, Step::Pop, steps);
         i += 1;
     }
     w
 }
 
-fn pop_keys(work: Work, n: usize) -> Work
-    requires { ⌜ CanPop work n ⌝ }
-    ensures { λ r. ⌜ Popped work n r ⌝ }
+fn pop_keys(work: Place, n: usize, steps: &mut [u16]) -> Place
+    requires { ⌜ CanPop (workOf work (now steps)) n × (length (now steps) ≡ 128) ⌝ }
+    ensures { λ r. ⌜ Popped (workOf work (now (steps .entry))) n (workOf r (now (steps .exit))) ⌝ }
 {
     let mut w = work;
     let mut i: usize = 0;
     while i < n {
-        w = act(w, Step::Pop);
+        w = act(w, Step::Pop, steps);
         i += 1;
     }
     w
 }
 
 // Star-swap's steps behind those so far.
-fn route(work: Work, goal: &[u8]) -> Work
-    requires { ⌜ CanRoute work (now goal) ⌝ }
-    ensures { λ r. ⌜ Wrote r (routed (now (goal .entry)) (draftOf work) .steps) ⌝ }
+fn route(work: Place, goal: &[u8], steps: &mut [u16]) -> Place
+    requires { ⌜ CanRoute (workOf work (now steps)) (now goal) ⌝ }
+    ensures { λ r. ⌜ Wrote (workOf r (now (steps .exit))) (routed (now (goal .entry)) (draftOf (workOf work (now (steps .entry)))) .steps) ⌝ }
 {
     let stack = work.stack;
     let n = stack.len;
     let mut cur: [u8; 21] = [0; 21];
     replay::write(stack, &mut cur);
-    let mut steps = work.steps;
-    let from = work.count;
-    let count = star_swap::star(&cur[0..n], goal, from, &mut steps);
-    Work {
-        stack,
-        steps,
-        count,
-    }
+    let count = star_swap::star(&cur[0..n], goal, work.count, steps);
+    Place { stack, count }
 }
 
 fn lesser(a: usize, b: usize) -> usize
@@ -128,15 +118,16 @@ fn lesser(a: usize, b: usize) -> usize
 }
 
 // Delete-tail's plan.
-fn tail(start: &[u8], goal: &[u8]) -> Work
-    requires { ⌜ IsTail (length (now start)) (now start) (now goal) ⌝ }
-    ensures { λ r. ⌜ Wrote r (deleteTail (now (start .entry)) (now (goal .entry))) ⌝ }
+fn tail(start: &[u8], goal: &[u8], steps: &mut [u16]) -> Place
+    requires { ⌜ IsTail (length (now start)) (now start) (now goal) × (length (now steps) ≡ 128) ⌝ }
+    ensures { λ r. ⌜ Wrote (workOf r (now (steps .exit))) (deleteTail (now (start .entry)) (now (goal .entry))) ⌝ }
 {
     let keep = goal.len();
     let dead = start.len() - keep;
     let bury = lesser(keep, dead);
-    let work = pop_keys(bury_keys(begin(start), bury), dead - bury);
-    route(work, goal)
+    let buried = bury_keys(begin(start), bury, steps);
+    let work = pop_keys(buried, dead - bury, steps);
+    route(work, goal, steps)
 }
 
 // The first n steps of a plan over the first places of a list, the rest untouched.
@@ -197,8 +188,8 @@ pub fn delete_tail(start: &[u8], goal: &[u8], swap_max: usize, steps: &mut [u16]
             count: 0,
         };
     }
-    let work = tail(start, goal);
-    let plan = work.steps;
+    let mut plan: [u16; 128] = [0; 128];
+    let work = tail(start, goal, &mut plan);
     let count = work.count;
     give(&plan, count, steps);
     Written { refusal: 0, count }
@@ -251,15 +242,15 @@ fn surplus_at(stack: Stack, wanted: &[usize; 64]) -> usize
 }
 
 // The key at a place swapped up and popped.
-fn drop_at(work: Work, d: usize) -> Work
-    requires { ⌜ Fit work × (d < work .stack .len) ⌝ }
-    ensures { λ r. ⌜ Dropped work d r ⌝ }
+fn drop_at(work: Place, d: usize, steps: &mut [u16]) -> Place
+    requires { ⌜ Fit (workOf work (now steps)) × (d < work .stack .len) ⌝ }
+    ensures { λ r. ⌜ Dropped (workOf work (now (steps .entry))) d (workOf r (now (steps .exit))) ⌝ }
 {
     if d == 0 {
-        return act(work, Step::Pop);
+        return act(work, Step::Pop, steps);
     }
-    let up = act(work, Step::Swap(d as u8));
-    act(up, Step::Pop)
+    let up = act(work, Step::Swap(d as u8), steps);
+    act(up, Step::Pop, steps)
 }
 
 // Whether the swaps do not reach a place.
@@ -273,9 +264,9 @@ fn beyond(d: usize, swap_max: usize) -> bool
 }
 
 // The first surplus key from the top goes, until none is left.
-fn trim(work: Work, goal: &[u8], swap_max: usize) -> Tried
-    requires { ⌜ Fit work × Window (now goal) ⌝ }
-    ensures { λ r. ⌜ TrimDone work (now (goal .entry)) «swap_max» r ⌝ }
+fn trim(work: Place, goal: &[u8], swap_max: usize, steps: &mut [u16]) -> Reach
+    requires { ⌜ Fit (workOf work (now steps)) × Window (now goal) ⌝ }
+    ensures { λ r. ⌜ TrimDone (workOf work (now (steps .entry))) (now (goal .entry)) «swap_max» (reachOf r (now (steps .exit))) ⌝ }
 {
     let wanted = star_swap::counts(goal);
     let mut w = work;
@@ -283,12 +274,12 @@ fn trim(work: Work, goal: &[u8], swap_max: usize) -> Tried
     while d < w.stack.len {
         let far = beyond(d, swap_max);
         if far {
-            return Tried { ok: false, work: w };
+            return Reach { ok: false, at: w };
         }
-        w = drop_at(w, d);
+        w = drop_at(w, d, steps);
         d = surplus_at(w.stack, &wanted);
     }
-    Tried { ok: true, work: w }
+    Reach { ok: true, at: w }
 }
 
 // The step that makes a key.
@@ -304,67 +295,83 @@ fn made_step(kinds: &[u8], key: u8) -> Step
 }
 
 // A copy of the key at a place.
-fn copy_at(work: Work, d: usize, dup_max: usize, swap_max: usize) -> Tried
-    requires { ⌜ Room work × (d < work .stack .len) × (work .stack .len < 21) ⌝ }
-    ensures { λ r. ⌜ Copied «dup_max» «swap_max» d work r ⌝ }
+fn copy_at(work: Place, d: usize, dup_max: usize, swap_max: usize, steps: &mut [u16]) -> Reach
+    requires { ⌜ Room (workOf work (now steps)) × (d < work .stack .len) × (work .stack .len < 21) ⌝ }
+    ensures { λ r. ⌜ Copied «dup_max» «swap_max» d (workOf work (now (steps .entry))) (reachOf r (now (steps .exit))) ⌝ }
 {
     if d < dup_max {
-        return Tried {
+        return Reach {
             ok: true,
-            work: act(work, Step::Dup(d as u8)),
+            at: act(work, Step::Dup(d as u8), steps),
         };
     }
     if dup_max == 0 {
-        return Tried { ok: false, work };
+        return Reach {
+            ok: false,
+            at: work,
+        };
     }
     if d >= swap_max {
-        return Tried { ok: false, work };
+        return Reach {
+            ok: false,
+            at: work,
+        };
     }
-    let up = act(work, Step::Swap(d as u8));
-    Tried {
+    let up = act(work, Step::Swap(d as u8), steps);
+    Reach {
         ok: true,
-        work: act(up, Step::Dup(0)),
+        at: act(up, Step::Dup(0), steps),
     }
 }
 
 // One key more: a copy from the highest place, or the key made.
-fn add_key(work: Work, key: u8, cfg: SearchCfg, kinds: &[u8]) -> Tried
-    requires { ⌜ Room work × (key < 64) × (cfg .«max_len» ≤ 21) × (length (now kinds) ≡ 64) ⌝ }
-    ensures { λ r. ⌜ AddDone (ruled cfg (now (kinds .entry))) key work r ⌝ }
+fn add_key(work: Place, key: u8, cfg: SearchCfg, kinds: &[u8], steps: &mut [u16]) -> Reach
+    requires { ⌜ Room (workOf work (now steps)) × (key < 64) × (cfg .«max_len» ≤ 21) × (length (now kinds) ≡ 64) ⌝ }
+    ensures { λ r. ⌜ AddDone (ruled cfg (now (kinds .entry))) key (workOf work (now (steps .entry))) (reachOf r (now (steps .exit))) ⌝ }
 {
     let stack = work.stack;
     let n = stack.len;
     if n >= cfg.max_len {
-        return Tried { ok: false, work };
+        return Reach {
+            ok: false,
+            at: work,
+        };
     }
     let d = first_of(stack, key);
     if d == n {
         let step = made_step(kinds, key);
-        return Tried {
+        return Reach {
             ok: true,
-            work: act(work, step),
+            at: act(work, step, steps),
         };
     }
-    copy_at(work, d, cfg.dup_max, cfg.swap_max)
+    copy_at(work, d, cfg.dup_max, cfg.swap_max, steps)
 }
 
 // So many keys more.
-fn add_times(work: Work, n: usize, key: u8, cfg: SearchCfg, kinds: &[u8]) -> Tried
-    requires { ⌜ Room work × (key < 64) × (cfg .«max_len» ≤ 21) × (length (now kinds) ≡ 64) ⌝ }
-    ensures { λ r. ⌜ TimesDone n (ruled cfg (now (kinds .entry))) key work r ⌝ }
+fn add_times(
+    work: Place,
+    n: usize,
+    key: u8,
+    cfg: SearchCfg,
+    kinds: &[u8],
+    steps: &mut [u16],
+) -> Reach
+    requires { ⌜ Room (workOf work (now steps)) × (key < 64) × (cfg .«max_len» ≤ 21) × (length (now kinds) ≡ 64) ⌝ }
+    ensures { λ r. ⌜ TimesDone n (ruled cfg (now (kinds .entry))) key (workOf work (now (steps .entry))) (reachOf r (now (steps .exit))) ⌝ }
 {
     let mut w = work;
     let mut i: usize = 0;
     while i < n {
-        let a = add_key(w, key, cfg, kinds);
-        w = a.work;
+        let a = add_key(w, key, cfg, kinds, steps);
+        w = a.at;
         if a.ok {
             i += 1;
         } else {
-            return Tried { ok: false, work: w };
+            return Reach { ok: false, at: w };
         }
     }
-    Tried { ok: true, work: w }
+    Reach { ok: true, at: w }
 }
 
 // How often the key stands in the window.
@@ -390,26 +397,41 @@ fn missing(stack: Stack, key: u8, want: usize) -> usize
     if have < want { want - have } else { 0 }
 }
 
+// The first wanted key from a key on, or 64.
+fn next_wanted(wanted: &[usize; 64], from: u8) -> u8
+    requires { ⌜ (from ≤ 64) × (length (now wanted) ≡ 64) ⌝ }
+    ensures { λ r. ⌜ Unwanted (now (wanted .entry)) from r ⌝ }
+{
+    let mut key = from;
+    while key <= 63 {
+        if wanted[key as usize] != 0 {
+            return key;
+        }
+        key += 1;
+    }
+    key
+}
+
 // The missing keys in rising order.
-fn fill(work: Work, goal: &[u8], cfg: SearchCfg, kinds: &[u8]) -> Tried
-    requires { ⌜ Room work × Window (now goal) × (cfg .«max_len» ≤ 21) × (length (now kinds) ≡ 64) ⌝ }
-    ensures { λ r. ⌜ FillDone (ruled cfg (now (kinds .entry))) (now (goal .entry)) work r ⌝ }
+fn fill(work: Place, goal: &[u8], cfg: SearchCfg, kinds: &[u8], steps: &mut [u16]) -> Reach
+    requires { ⌜ Room (workOf work (now steps)) × Window (now goal) × (cfg .«max_len» ≤ 21) × (length (now kinds) ≡ 64) ⌝ }
+    ensures { λ r. ⌜ FillDone (ruled cfg (now (kinds .entry))) (now (goal .entry)) (workOf work (now (steps .entry))) (reachOf r (now (steps .exit))) ⌝ }
 {
     let wanted = star_swap::counts(goal);
     let mut w = work;
-    let mut key: u8 = 0;
+    let mut key = next_wanted(&wanted, 0);
     while key < 64 {
         let want = wanted[key as usize];
         let n = missing(w.stack, key, want);
-        let a = add_times(w, n, key, cfg, kinds);
-        w = a.work;
+        let a = add_times(w, n, key, cfg, kinds, steps);
+        w = a.at;
         if a.ok {
-            key += 1;
+            key = next_wanted(&wanted, key + 1);
         } else {
-            return Tried { ok: false, work: w };
+            return Reach { ok: false, at: w };
         }
     }
-    Tried { ok: true, work: w }
+    Reach { ok: true, at: w }
 }
 
 // Whether star-swap refuses the window.
@@ -424,44 +446,47 @@ fn cannot_route(stack: Stack, goal: &[u8], swap_max: usize) -> bool
 }
 
 // Star-swap finishes, or refuses.
-fn finish(work: Work, goal: &[u8], swap_max: usize) -> Tried
-    requires { ⌜ Room work × Window (now goal) ⌝ }
-    ensures { λ r. ⌜ Gives (stepsOf (finished «swap_max» (now (goal .entry)) (draftOf work))) r ⌝ }
+fn finish(work: Place, goal: &[u8], swap_max: usize, steps: &mut [u16]) -> Reach
+    requires { ⌜ Room (workOf work (now steps)) × Window (now goal) ⌝ }
+    ensures { λ r. ⌜ Gives (stepsOf (finished «swap_max» (now (goal .entry)) (draftOf (workOf work (now (steps .entry)))))) (reachOf r (now (steps .exit))) ⌝ }
 {
     let none = cannot_route(work.stack, goal, swap_max);
     if none {
-        return Tried { ok: false, work };
+        return Reach {
+            ok: false,
+            at: work,
+        };
     }
-    Tried {
+    Reach {
         ok: true,
-        work: route(work, goal),
+        at: route(work, goal, steps),
     }
 }
 
 // The missing keys, then star-swap.
-fn complete(work: Work, goal: &[u8], cfg: SearchCfg, kinds: &[u8]) -> Tried
-    requires { ⌜ Room work × Window (now goal) × (cfg .«max_len» ≤ 21) × (length (now kinds) ≡ 64) ⌝ }
-    ensures { λ r. ⌜ Gives (stepsOf (completed (ruled cfg (now (kinds .entry))) (now (goal .entry)) (draftOf work))) r ⌝ }
+fn complete(work: Place, goal: &[u8], cfg: SearchCfg, kinds: &[u8], steps: &mut [u16]) -> Reach
+    requires { ⌜ Room (workOf work (now steps)) × Window (now goal) × (cfg .«max_len» ≤ 21) × (length (now kinds) ≡ 64) ⌝ }
+    ensures { λ r. ⌜ Gives (stepsOf (completed (ruled cfg (now (kinds .entry))) (now (goal .entry)) (draftOf (workOf work (now (steps .entry)))))) (reachOf r (now (steps .exit))) ⌝ }
 {
-    let a = fill(work, goal, cfg, kinds);
-    let w = a.work;
+    let a = fill(work, goal, cfg, kinds, steps);
+    let w = a.at;
     if a.ok {
-        return finish(w, goal, cfg.swap_max);
+        return finish(w, goal, cfg.swap_max, steps);
     }
-    Tried { ok: false, work: w }
+    Reach { ok: false, at: w }
 }
 
 // Dup-and-star's plan.
-fn build(start: &[u8], goal: &[u8], cfg: SearchCfg, kinds: &[u8]) -> Tried
-    requires { ⌜ Window (now start) × Window (now goal) × (cfg .«max_len» ≤ 21) × (length (now kinds) ≡ 64) ⌝ }
-    ensures { λ r. ⌜ Gives (stepsOf (dupAndStar (ruled cfg (now (kinds .entry))) (now (start .entry)) (now (goal .entry)))) r ⌝ }
+fn build(start: &[u8], goal: &[u8], cfg: SearchCfg, kinds: &[u8], steps: &mut [u16]) -> Reach
+    requires { ⌜ Window (now start) × Window (now goal) × (cfg .«max_len» ≤ 21) × (length (now kinds) ≡ 64) × (length (now steps) ≡ 128) ⌝ }
+    ensures { λ r. ⌜ Gives (stepsOf (dupAndStar (ruled cfg (now (kinds .entry))) (now (start .entry)) (now (goal .entry)))) (reachOf r (now (steps .exit))) ⌝ }
 {
-    let a = trim(begin(start), goal, cfg.swap_max);
-    let w = a.work;
+    let a = trim(begin(start), goal, cfg.swap_max, steps);
+    let w = a.at;
     if a.ok {
-        return complete(w, goal, cfg, kinds);
+        return complete(w, goal, cfg, kinds, steps);
     }
-    Tried { ok: false, work: w }
+    Reach { ok: false, at: w }
 }
 
 // Dup-and-star: its steps over the first places of the step list, or none.
@@ -475,10 +500,10 @@ pub fn dup_and_star(
     requires { ⌜ Window (now start) × Window (now goal) × (cfg .«max_len» ≤ 21) × (length (now kinds) ≡ 64) × (128 ≤ length (now steps)) ⌝ }
     ensures { λ r. ⌜ (r, now (steps .exit)) ≡ builtOf (stepsOf (dupAndStar (ruled cfg (now (kinds .entry))) (now (start .entry)) (now (goal .entry)))) (now (steps .entry)) ⌝ }
 {
-    let a = build(start, goal, cfg, kinds);
-    let work = a.work;
+    let mut plan: [u16; 128] = [0; 128];
+    let a = build(start, goal, cfg, kinds, &mut plan);
+    let work = a.at;
     if a.ok {
-        let plan = work.steps;
         let count = work.count;
         give(&plan, count, steps);
         return Built::Plan(count);
@@ -495,8 +520,8 @@ pub fn tail_plan(start: &[u8], goal: &[u8], swap_max: usize, steps: &mut [u16]) 
     if none {
         return Built::Nothing;
     }
-    let work = tail(start, goal);
-    let plan = work.steps;
+    let mut plan: [u16; 128] = [0; 128];
+    let work = tail(start, goal, &mut plan);
     let count = work.count;
     give(&plan, count, steps);
     Built::Plan(count)

@@ -5,3 +5,4 @@ pub mod Table
 pub mod Price
 pub mod Packed
 pub mod Laws
+pub mod Most

@@ -1,12 +1,13 @@
 // Costs, stack steps, the price list, and the checks of the two tables.
 ghost use mathlib.Core.Path.{_≡_};
-ghost use Prim.Native.Nat.{_<_};
+ghost use Prim.Native.Nat.{_<_, _≤_, max};
 ghost use mathlib.Core.Bool.{_||_};
-ghost use lib.ListN.{getD};
+ghost use lib.ListN.{getD, length};
 ghost use Rattle.costs.specs.Choice.{_if_otherwise_};
 ghost use Rattle.costs.specs.Cost.{capped, none, plus, noMore};
 ghost use Rattle.costs.specs.Step.{decoded, codeOf, pairOf};
 ghost use Rattle.costs.specs.Table.{anyOver, countOf, kindsFault, pricesFault};
+ghost use Rattle.costs.specs.Most.{mostFrom};
 ghost use Rattle.costs.specs.Price.{priceOf, costForSteps};
 ghost use Rattle.costs.specs.Packed.{costOf};
 
@@ -125,32 +126,56 @@ pub fn code(step: Step) -> u16
     }
 }
 
+fn larger(a: u8, b: u8) -> u8
+    ensures { λ r. ⌜ r ≡ max a b ⌝ }
+{
+    if a < b { b } else { a }
+}
+
+// The greatest byte of the list, and 0 of none.
+fn greatest(list: &[u8]) -> u8
+    ensures { λ r. ⌜ r ≡ mostFrom 0 (now (list .entry)) ⌝ }
+{
+    let mut most: u8 = 0;
+    let mut i = 0;
+    while i < list.len() {
+        most = larger(most, list[i]);
+        i += 1;
+    }
+    most
+}
+
 // Whether some byte of the list is over the limit.
 pub fn any_over(list: &[u8], limit: u8) -> bool
     ensures { λ r. ⌜ r ≡ anyOver limit (now (list .entry)) ⌝ }
 {
+    limit < greatest(list)
+}
+
+fn larger_price(a: u32, b: u32) -> u32
+    ensures { λ r. ⌜ r ≡ max a b ⌝ }
+{
+    if a < b { b } else { a }
+}
+
+// The greatest price, and 0 of none.
+fn greatest_price(list: &[u32]) -> u32
+    ensures { λ r. ⌜ r ≡ mostFrom 0 (now (list .entry)) ⌝ }
+{
+    let mut most: u32 = 0;
     let mut i = 0;
     while i < list.len() {
-        if limit < list[i] {
-            return true;
-        }
+        most = larger_price(most, list[i]);
         i += 1;
     }
-    false
+    most
 }
 
 // Whether some price is over the limit.
 fn any_price_over(list: &[u32], limit: u32) -> bool
     ensures { λ r. ⌜ r ≡ anyOver limit (now (list .entry)) ⌝ }
 {
-    let mut i = 0;
-    while i < list.len() {
-        if limit < list[i] {
-            return true;
-        }
-        i += 1;
-    }
-    false
+    limit < greatest_price(list)
 }
 
 // How many bytes of the list are k.
@@ -158,6 +183,22 @@ pub fn count_of(list: &[u8], k: u8) -> usize
     ensures { λ r. ⌜ r ≡ countOf k (now (list .entry)) ⌝ }
 {
     let mut n: usize = 0;
+    let mut i = 0;
+    while i < list.len() {
+        if list[i] == k {
+            n += 1;
+        }
+        i += 1;
+    }
+    n
+}
+
+// The same of a list of at most 255 bytes.
+fn count_short(list: &[u8], k: u8) -> u8
+    requires { ⌜ length (now list) ≤ 255 ⌝ }
+    ensures { λ r. ⌜ r ≡ countOf k (now (list .entry)) ⌝ }
+{
+    let mut n: u8 = 0;
     let mut i = 0;
     while i < list.len() {
         if list[i] == k {
@@ -178,7 +219,7 @@ pub fn kinds_fault(kinds: &[u8]) -> bool
     if any_over(kinds, 2) {
         return true;
     }
-    1 < count_of(kinds, 2)
+    1 < count_short(kinds, 2)
 }
 
 // Refusal 4, of the prices.

@@ -22,3 +22,4 @@ pub mod Routable
 pub mod Ran
 pub mod Call
 pub mod Theorems
+pub mod Ended

@@ -5,6 +5,7 @@ ghost use Prim.Native.Nat.{_+_, _≤_, _<_};
 ghost use lib.ListN.{length, replicate, drop};
 ghost use Rattle.star_swap.specs.Chain.{Ready, Given};
 ghost use Rattle.star_swap.specs.StarLoop.{Appended};
+ghost use Rattle.star_swap.specs.Ended.{Ended, Swept};
 ghost use Rattle.star_swap.specs.StarCode.{Pair, LinkedAt, Emitted};
 ghost use Rattle.star_swap.specs.Star.{code};
 ghost use Rattle.star_swap.specs.Refusal.{sameCounts, sameKeys, unroutable, builderRefusal, swapRefusal, starSwapped};
@@ -93,6 +94,28 @@ fn emit(out: &[u8; 21], m: usize, start: usize, steps: &mut [u16]) -> usize
     i
 }
 
+// Whether some key has an arc left.
+fn any_arc(head: &[u8; 64]) -> bool
+    requires { ⌜ length (now head) ≡ 64 ⌝ }
+    ensures { λ r. ⌜ Swept r 64 (now (head .entry)) ⌝ }
+{
+    let mut any = false;
+    let mut i: usize = 0;
+    while i < 64 {
+        any = costs::either(any, head[i] != NO_ARC);
+        i += 1;
+    }
+    any
+}
+
+// A key below which no key has an arc left.
+fn first_key(head: &[u8; 64]) -> u8
+    requires { ⌜ length (now head) ≡ 64 ⌝ }
+    ensures { λ r. ⌜ (r ≤ 64) × Ended r (now (head .entry)) ⌝ }
+{
+    if any_arc(head) { 0 } else { 64 }
+}
+
 // The swaps that turn `cur` into `goal`, from the place `start` of `steps` on: the place behind the last.
 pub fn star(cur: &[u8], goal: &[u8], start: usize, steps: &mut [u16]) -> usize
     requires { ⌜ Pair (now cur) (now goal) ⌝ }
@@ -109,7 +132,7 @@ pub fn star(cur: &[u8], goal: &[u8], start: usize, steps: &mut [u16]) -> usize
     let top = cur[0];
     let first = trail(cur, &next, top, &mut head, &mut out);
     let mut count = emit(&out, first, start, steps);
-    let mut key: u8 = 0;
+    let mut key = first_key(&head);
     while key < 64 {
         let m = trail(cur, &next, key, &mut head, &mut out);
         if m > 0 {

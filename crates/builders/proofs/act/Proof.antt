@@ -10,18 +10,20 @@ code-requires c κs = search needs
 mul-steps : tie.Need-mul-steps
 mul-steps c = search needs
 
-array-write-steps : tie.Need-array-write-steps
-array-write-steps c = search needs
+slice-write-steps : tie.Need-slice-write-steps
+slice-write-steps c = search needs
 
 moved-requires : tie.Need-moved-requires
 moved-requires c κs = search needs
 
-add-t7 : tie.Need-add-t7
-add-t7 c = search needs
+add-t6 : tie.Need-add-t6
+add-t6 c = search needs
+
+same-length : tie.Need-same-length
+same-length c = search needs
 
 returns : tie.Need-returns
 returns c = search (acted, needs)
 
 pub act-spec : {M : Type 1} → statement M
-act-spec =
-    tie.close (tie.spec code-requires mul-steps array-write-steps moved-requires add-t7 returns)
+act-spec = tie.close (tie.spec code-requires mul-steps slice-write-steps moved-requires add-t6 same-length returns)

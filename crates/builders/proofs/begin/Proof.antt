@@ -1,6 +1,5 @@
 -- The stack holds the start.
 use mathlib.Core.Path.{refl}
-use Rattle.builders.specs.Work.{begun}
 use borrow.Author.Needs.{needs}
 use Rattle.builders.proofs.begin.Statement.{statement}
 use Rattle.builders.proofs.begin.Tie as tie
@@ -9,7 +8,7 @@ load-requires : tie.Need-load-requires
 load-requires c κs = search needs
 
 returns : tie.Need-returns
-returns c = begun _ _ _ (c .load .ensures) refl
+returns c = record { window = c .load .ensures; none = refl }
 
 pub begin-spec : {M : Type 1} → statement M
 begin-spec = tie.close (tie.spec load-requires returns)

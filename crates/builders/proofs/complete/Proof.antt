@@ -1,4 +1,5 @@
 -- By whether the filling came to its end.
+use mathlib.Core.Path.{_≡_, refl, sym, _∙_}
 use Rattle.builders.specs.BuildCode.{complete-yes, complete-no}
 use borrow.Author.Needs.{needs}
 use Rattle.builders.proofs.complete.Statement.{statement}
@@ -10,11 +11,17 @@ fill-requires c κs = search needs
 finish-requires : tie.Need-finish-requires
 finish-requires c κs = search needs
 
+same-length : tie.Need-same-length
+same-length c = search needs
+
 returns : tie.Need-returns
-returns c = complete-yes _ _ _ _ (c .before .before .before .fill .ensures) _ (c .before .if1 .taken) (c .finish .ensures)
+returns c = complete-yes _ _ _ _ (c .before .before .before .before .before .before .before .before .fill .ensures) _ (c .before .before .before .before .if1 .taken) (c .before .before .finish .ensures)
+
+same-length-2 : tie.Need-same-length-2
+same-length-2 c = search needs
 
 returns-2 : tie.Need-returns-2
-returns-2 c = complete-no _ _ _ _ (c .before .before .fill .ensures) (c .if1 .left)
+returns-2 c = complete-no _ _ _ _ (c .before .before .before .before .fill .ensures) (c .if1 .left)
 
 pub complete-spec : {M : Type 1} → statement M
-complete-spec = tie.close (tie.spec fill-requires finish-requires returns returns-2)
+complete-spec = tie.close (tie.spec fill-requires finish-requires same-length returns same-length-2 returns-2)

@@ -4,23 +4,26 @@ use borrow.Author.Needs.{needs}
 use Rattle.builders.proofs.copy_at.Statement.{statement}
 use Rattle.builders.proofs.copy_at.Tie as tie
 
-cast-t8 : tie.Need-cast-t8
-cast-t8 c = search needs
+cast-t9 : tie.Need-cast-t9
+cast-t9 c = search needs
 
 act-requires : tie.Need-act-requires
 act-requires c κs = search needs
 
+same-length : tie.Need-same-length
+same-length c = search needs
+
 returns : tie.Need-returns
-returns c = copy-dup _ _ _ _ (c .before .before .pre .0) (c .before .before .pre .1) (c .before .before .pre .2) _ (c .before .if1 .taken) (c .act .ensures)
+returns c = copy-dup _ _ _ _ (c .before .before .before .before .before .before .pre .0) (c .before .before .before .before .before .before .pre .1) (c .before .before .before .before .before .before .pre .2) _ (c .before .before .before .before .if1 .taken) (c .before .before .act .ensures)
 
 returns-2 : tie.Need-returns-2
-returns-2 c = copy-no-dup _ _ _ _ (c .before .before .pre .0) (c .before .before .pre .1) (c .before .before .pre .2) (c .before .if1 .left) (c .if2 .taken)
+returns-2 c = copy-no-dup _ _ _ _ (c .before .before .before .pre .0) (c .before .before .before .pre .1) (c .before .before .before .pre .2) (c .before .if1 .left) (c .if2 .taken)
 
 returns-3 : tie.Need-returns-3
-returns-3 c = copy-far _ _ _ _ (c .before .before .before .pre .0) (c .before .before .before .pre .1) (c .before .before .before .pre .2) (c .before .before .if1 .left) (c .if3 .taken)
+returns-3 c = copy-far _ _ _ _ (c .before .before .before .before .pre .0) (c .before .before .before .before .pre .1) (c .before .before .before .before .pre .2) (c .before .before .if1 .left) (c .if3 .taken)
 
-cast-t10 : tie.Need-cast-t10
-cast-t10 c = search needs
+cast-t13 : tie.Need-cast-t13
+cast-t13 c = search needs
 
 act-requires-2 : tie.Need-act-requires-2
 act-requires-2 c κs = search needs
@@ -28,19 +31,11 @@ act-requires-2 c κs = search needs
 act-requires-3 : tie.Need-act-requires-3
 act-requires-3 c κs = search needs
 
+same-length-2 : tie.Need-same-length-2
+same-length-2 c = search needs
+
 returns-4 : tie.Need-returns-4
-returns-4 c = copy-up _ _ _ _ (c .before .before .before .before .before .pre .0) (c .before .before .before .before .before .pre .1) (c .before .before .before .before .before .pre .2) _ _ (c .before .before .before .before .if1 .left) (c .before .before .before .if2 .left) (c .before .before .if3 .left) (c .before .act2 .ensures) (c .act3 .ensures)
+returns-4 c = copy-up _ _ _ _ (c .before .before .before .before .before .before .before .before .before .before .before .before .pre .0) (c .before .before .before .before .before .before .before .before .before .before .before .before .pre .1) (c .before .before .before .before .before .before .before .before .before .before .before .before .pre .2) _ _ (c .before .before .before .before .before .before .before .before .before .before .if1 .left) (c .before .before .before .before .before .before .before .before .before .if2 .left) (c .before .before .before .before .before .before .before .before .if3 .left) (c .before .before .before .before .before .before .act2 .ensures) (c .before .before .act3 .ensures)
 
 pub copy-at-spec : {M : Type 1} → statement M
-copy-at-spec =
-    tie.close
-    (tie.spec
-    cast-t8
-    act-requires
-    returns
-    returns-2
-    returns-3
-    cast-t10
-    act-requires-2
-    act-requires-3
-    returns-4)
+copy-at-spec = tie.close (tie.spec cast-t9 act-requires same-length returns returns-2 returns-3 cast-t13 act-requires-2 act-requires-3 same-length-2 returns-4)

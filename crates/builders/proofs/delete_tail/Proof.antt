@@ -1,5 +1,5 @@
 -- A refusal by the table; else the plan, written over the first places.
-use mathlib.Core.Path.{sym, _∙_}
+use mathlib.Core.Path.{refl, sym, _∙_}
 use native.Mathlib.Omega.{arith}
 use Rattle.builders.specs.TailCode.{tail-refused, tail-given, tail-accepted, tail-own}
 use Rattle.builders.specs.TailLaws.{IsTail}
@@ -19,22 +19,25 @@ returns c = search tail-refused
 allowed : (c : tie.Else1) → let a = c .before .before .before .before .before .args in Taken (a .swap-max) (a .start .now) (a .goal .now) (length (a .steps .now)) × IsTail (a .swap-max) (a .start .now) (a .goal .now)
 allowed c = tail-accepted _ _ _ _ (sym (c .before .tail-refusal .ensures) ∙ c .if1 .left)
 
+slice-aggregate-tail : tie.Need-slice-aggregate-tail
+slice-aggregate-tail c = search needs
+
 tail-requires : tie.Need-tail-requires
-tail-requires c κs = tail-own _ _ _ (allowed c .1)
+tail-requires c κs = (tail-own _ _ _ (allowed (c .before) .1), refl)
 
 slice-aggregate-give : tie.Need-slice-aggregate-give
 slice-aggregate-give c = search needs
 
 give-requires : tie.Need-give-requires
-give-requires c κs = let w = c .before .before .before .tail .ensures in let a = allowed (c .before .before .before .before) in (omega (arith, w .room), omega (arith, w .room, w .full), omega (arith, w .room, a .0 .room))
+give-requires c κs = let w = c .before .before .before .tail .ensures in let a = allowed (c .before .before .before .before .before) in (omega (arith, w .room), omega (arith, w .room, w .full), omega (arith, w .room, a .0 .room))
 
 same-length : tie.Need-same-length
 same-length c = search needs
 
 returns-2 : tie.Need-returns-2
-returns-2 c = search tail-given
+returns-2 c = tail-given _ _ _ _ _ (c .before .before .before .before .before .before .before .before .before .tail-refusal .ensures) _ _ (c .before .before .before .before .before .before .before .before .if1 .left) (c .before .before .before .before .before .before .tail .ensures) (c .before .before .give .ensures)
 
 pub delete-tail-spec : {M : Type 1} → statement M
 delete-tail-spec =
     tie.close
-    (tie.spec tail-refusal-requires returns tail-requires slice-aggregate-give give-requires same-length returns-2)
+    (tie.spec tail-refusal-requires returns slice-aggregate-tail tail-requires slice-aggregate-give give-requires same-length returns-2)

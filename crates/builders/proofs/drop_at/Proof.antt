@@ -7,11 +7,14 @@ use Rattle.builders.proofs.drop_at.Tie as tie
 act-requires : tie.Need-act-requires
 act-requires c κs = search needs
 
-returns : tie.Need-returns
-returns c = drop-top _ _ (c .before .before .pre .0) (c .before .before .pre .1) _ (c .before .if1 .taken) (c .act .ensures)
+same-length : tie.Need-same-length
+same-length c = search needs
 
-cast-t6 : tie.Need-cast-t6
-cast-t6 c = search needs
+returns : tie.Need-returns
+returns c = drop-top _ _ (c .before .before .before .before .before .before .pre .0) (c .before .before .before .before .before .before .pre .1) _ (c .before .before .before .before .if1 .taken) (c .before .before .act .ensures)
+
+cast-t9 : tie.Need-cast-t9
+cast-t9 c = search needs
 
 act-requires-2 : tie.Need-act-requires-2
 act-requires-2 c κs = search needs
@@ -19,9 +22,11 @@ act-requires-2 c κs = search needs
 act-requires-3 : tie.Need-act-requires-3
 act-requires-3 c κs = search needs
 
+same-length-2 : tie.Need-same-length-2
+same-length-2 c = search needs
+
 returns-2 : tie.Need-returns-2
-returns-2 c = drop-deep _ _ (c .before .before .before .pre .0) (c .before .before .before .pre .1) _ _ (c .before .before .if1 .left) (c .before .act2 .ensures) (c .act3 .ensures)
+returns-2 c = drop-deep _ _ (c .before .before .before .before .before .before .before .before .before .before .pre .0) (c .before .before .before .before .before .before .before .before .before .before .pre .1) _ _ (c .before .before .before .before .before .before .before .before .if1 .left) (c .before .before .before .before .before .before .act2 .ensures) (c .before .before .act3 .ensures)
 
 pub drop-at-spec : {M : Type 1} → statement M
-drop-at-spec =
-    tie.close (tie.spec act-requires returns cast-t6 act-requires-2 act-requires-3 returns-2)
+drop-at-spec = tie.close (tie.spec act-requires same-length returns cast-t9 act-requires-2 act-requires-3 same-length-2 returns-2)

@@ -9,7 +9,7 @@ slice-aggregate-write : tie.Need-slice-aggregate-write
 slice-aggregate-write c = search needs
 
 write-requires : tie.Need-write-requires
-write-requires c κs = let h = route-short _ _ (c .before .before .before .pre) in omega arith
+write-requires c κs = let h = route-short _ _ (c .before .before .before .before .pre) in omega arith
 
 sub-star : tie.Need-sub-star
 sub-star c = search needs
@@ -18,26 +18,16 @@ part-star-start : tie.Need-part-star-start
 part-star-start c = search needs
 
 part-star-end : tie.Need-part-star-end
-part-star-end c = omega (arith, written-length _ _ _ (c .before .before .before .write .ensures))
-
-slice-aggregate-star : tie.Need-slice-aggregate-star
-slice-aggregate-star c = search needs
+part-star-end c = omega (arith, written-length _ _ _ (c .before .before .write .ensures))
 
 star-requires : tie.Need-star-requires
-star-requires c κs = let p = c .before .before .before .before .before .before .before .before .before .pre in (rw (written-take _ _ _ (c .before .before .before .before .before .write .ensures)) (p .pair), omega (arith, p .room, p .full))
+star-requires c κs = (rw (written-take _ _ _ (c .before .before .before .before .write .ensures)) (c .before .before .before .before .before .before .before .before .before .pre .pair), omega (arith, c .before .before .before .before .before .before .before .before .before .pre .room, c .before .before .before .before .before .before .before .before .before .pre .full))
+
+same-length : tie.Need-same-length
+same-length c = search needs
 
 returns : tie.Need-returns
-returns c = route-wrote _ _ _ _ _ (c .before .before .before .before .before .before .before .before .before .before .before .pre) (search needs) (written-take _ _ _ (c .before .before .before .before .before .before .before .write .ensures)) (c .before .star .ensures)
+returns c = route-wrote _ _ _ _ _ (c .before .before .before .before .before .before .before .before .before .before .before .before .pre) (search needs) (written-take _ _ _ (c .before .before .before .before .before .before .before .write .ensures)) (c .before .before .star .ensures)
 
 pub route-spec : {M : Type 1} → statement M
-route-spec =
-    tie.close
-    (tie.spec
-    slice-aggregate-write
-    write-requires
-    sub-star
-    part-star-start
-    part-star-end
-    slice-aggregate-star
-    star-requires
-    returns)
+route-spec = tie.close (tie.spec slice-aggregate-write write-requires sub-star part-star-start part-star-end star-requires same-length returns)

@@ -8,6 +8,7 @@ use lib.Seq.{length-take-le}
 use borrow.Author.Needs.{needs}
 use Rattle.star_swap.specs.StarCode.{drop-more, emitted-prefix}
 use Rattle.star_swap.specs.StarLoop.{StarInv, first-ready, star-begin, key-ready, none-out, room, one-out, empty-end, one-rest, appended-end}
+use Rattle.star_swap.specs.Ended.{skipped}
 use Rattle.star_swap.proofs.star.Statement.{statement}
 use Rattle.star_swap.proofs.star.Tie as tie
 
@@ -35,19 +36,24 @@ trail-requires c κs = first-ready _ _ (c .before .before .before .before .befor
 emit-requires : tie.Need-emit-requires Inv-loop μ-loop
 emit-requires c κs = (c .before .before .trail .ensures .few, omega (arith, c .before .before .trail .ensures .few, c .before .before .before .before .before .before .before .before .before .before .before .before .before .before .pre .1))
 
+first-key-requires : tie.Need-first-key-requires Inv-loop μ-loop
+first-key-requires c κs = search needs
+
 loop-holds : tie.Need-loop-holds Inv-loop μ-loop
 loop-holds c = (
-  rw (c .before .before .emit .ensures .0, emitted-prefix _ _ _ _ _ (omega (arith, c .before .before .before .before .before .before .before .before .before .before .before .before .before .before .before .before .before .pre .1)) (c .before .before .emit .ensures .1))
-      (star-begin _ _ (c .before .before .before .before .before .before .before .before .before .before .before .before .before .before .before .before .before .pre .0) _ _ _ _ _ _ _ _ (pos-of (c .before .before .before .before .before .before .before .before .before .before .before .before .before)) (c .before .before .before .before .before .before .before .before .before .before .link .ensures) (c .before .before .before .before .before .trail .ensures)
-      (omega (arith, c .before .before .before .before .before .trail .ensures .few, c .before .before .before .before .before .before .before .before .before .before .before .before .before .before .before .before .before .pre .1)) (c .before .before .emit .ensures .1)),
-  c .before .before .before .before .before .trail .ensures .out-length,
+  skipped _ _ (c .before .before .before .before .before .before .before .before .before .before .before .before .before .before .before .before .before .before .before .pre .0) _ _ _ _ _ _
+      (rw (c .before .before .before .before .emit .ensures .0, emitted-prefix _ _ _ _ _ (omega (arith, c .before .before .before .before .before .before .before .before .before .before .before .before .before .before .before .before .before .before .before .pre .1)) (c .before .before .before .before .emit .ensures .1))
+      (star-begin _ _ (c .before .before .before .before .before .before .before .before .before .before .before .before .before .before .before .before .before .before .before .pre .0) _ _ _ _ _ _ _ _ (pos-of (c .before .before .before .before .before .before .before .before .before .before .before .before .before .before .before)) (c .before .before .before .before .before .before .before .before .before .before .before .before .link .ensures) (c .before .before .before .before .before .before .before .trail .ensures)
+      (omega (arith, c .before .before .before .before .before .before .before .trail .ensures .few, c .before .before .before .before .before .before .before .before .before .before .before .before .before .before .before .before .before .before .before .pre .1)) (c .before .before .before .before .emit .ensures .1)))
+      (c .first-key .ensures .0) (c .first-key .ensures .1),
+  c .before .before .before .before .before .before .before .trail .ensures .out-length,
   refl,
   refl,
   omega arith,
 )
 
 trail-requires-2 : tie.Need-trail-requires-2 Inv-loop μ-loop
-trail-requires-2 c κs = key-ready _ _ (c .before .before .before .before .before .before .before .before .before .before .before .before .before .before .before .before .before .before .before .before .before .before .pre .0) _ _ _ _ _ _ (c .before .before .before .before .loop .inv .0) (omega (arith, c .before .before .before .loop-test .taken)) _ (c .before .before .before .before .loop .inv .1)
+trail-requires-2 c κs = key-ready _ _ (c .before .before .before .before .before .before .before .before .before .before .before .before .before .before .before .before .before .before .before .before .before .before .before .before .pre .0) _ _ _ _ _ _ (c .before .before .before .before .loop .inv .0) (omega (arith, c .before .before .before .loop-test .taken)) _ (c .before .before .before .before .loop .inv .1)
 
 array-read-enter : tie.Need-array-read-enter Inv-loop μ-loop
 array-read-enter c = search needs
@@ -56,16 +62,16 @@ swap-code-requires : tie.Need-swap-code-requires Inv-loop μ-loop
 swap-code-requires c κs = search needs
 
 mul-steps : tie.Need-mul-steps Inv-loop μ-loop
-mul-steps c = omega (arith, room _ _ (c .before .before .before .before .before .before .before .before .before .before .before .before .before .before .before .before .before .before .before .before .before .before .before .before .before .pre .0) _ _ _ _ _ _ (c .before .before .before .before .before .before .before .loop .inv .0) (omega (arith, c .before .before .before .before .before .before .loop-test .taken)) _ _ _ (c .before .before .trail2 .ensures) (c .before .if2 .taken), c .before .before .before .before .before .before .before .loop .inv .2, c .before .before .before .before .before .before .before .before .before .before .before .before .before .before .before .before .before .before .before .before .before .before .before .before .before .pre .1, c .before .before .before .before .before .before .before .before .before .before .emit .ensures .1 .len, length-take-le (c .before .before .before .before .before .before .before .before .before .before .before .before .before .before .before .before .before .before .before .before .before .before .before .before .before .args .start) (c .before .before .before .before .before .before .before .before .before .before .emit .last .1 .1 .1 .0) (omega (arith, c .before .before .before .before .before .before .before .before .before .before .before .before .before .before .before .before .before .before .before .before .before .before .before .before .before .pre .1, c .before .before .before .before .before .before .before .before .before .before .emit .ensures .1 .len)), c .before .before .before .before .before .before .before .before .before .before .before .before .before .before .before .before .before .before .before .before .before .before .before .before .before .good .1 .1 .1 .0 .1)
+mul-steps c = omega (arith, room _ _ (c .before .before .before .before .before .before .before .before .before .before .before .before .before .before .before .before .before .before .before .before .before .before .before .before .before .before .before .pre .0) _ _ _ _ _ _ (c .before .before .before .before .before .before .before .loop .inv .0) (omega (arith, c .before .before .before .before .before .before .loop-test .taken)) _ _ _ (c .before .before .trail2 .ensures) (c .before .if2 .taken), c .before .before .before .before .before .before .before .loop .inv .2, c .before .before .before .before .before .before .before .before .before .before .before .before .before .before .before .before .before .before .before .before .before .before .before .before .before .before .before .pre .1, c .before .before .before .before .before .before .before .before .before .before .before .before .emit .ensures .1 .len, length-take-le (c .before .before .before .before .before .before .before .before .before .before .before .before .before .before .before .before .before .before .before .before .before .before .before .before .before .before .before .args .start) (c .before .before .before .before .before .before .before .before .before .before .before .before .emit .last .1 .1 .1 .0) (omega (arith, c .before .before .before .before .before .before .before .before .before .before .before .before .before .before .before .before .before .before .before .before .before .before .before .before .before .before .before .pre .1, c .before .before .before .before .before .before .before .before .before .before .before .before .emit .ensures .1 .len)), c .before .before .before .before .before .before .before .before .before .before .before .before .before .before .before .before .before .before .before .before .before .before .before .before .before .before .before .good .1 .1 .1 .0 .1)
 
 slice-write-steps : tie.Need-slice-write-steps Inv-loop μ-loop
-slice-write-steps c = omega (arith, room _ _ (c .before .before .before .before .before .before .before .before .before .before .before .before .before .before .before .before .before .before .before .before .before .before .before .before .before .pre .0) _ _ _ _ _ _ (c .before .before .before .before .before .before .before .loop .inv .0) (omega (arith, c .before .before .before .before .before .before .loop-test .taken)) _ _ _ (c .before .before .trail2 .ensures) (c .before .if2 .taken), c .before .before .before .before .before .before .before .loop .inv .2, c .before .before .before .before .before .before .before .before .before .before .before .before .before .before .before .before .before .before .before .before .before .before .before .before .before .pre .1, c .before .before .before .before .before .before .before .before .before .before .emit .ensures .1 .len, length-take-le (c .before .before .before .before .before .before .before .before .before .before .before .before .before .before .before .before .before .before .before .before .before .before .before .before .before .args .start) (c .before .before .before .before .before .before .before .before .before .before .emit .last .1 .1 .1 .0) (omega (arith, c .before .before .before .before .before .before .before .before .before .before .before .before .before .before .before .before .before .before .before .before .before .before .before .before .before .pre .1, c .before .before .before .before .before .before .before .before .before .before .emit .ensures .1 .len)))
+slice-write-steps c = omega (arith, room _ _ (c .before .before .before .before .before .before .before .before .before .before .before .before .before .before .before .before .before .before .before .before .before .before .before .before .before .before .before .pre .0) _ _ _ _ _ _ (c .before .before .before .before .before .before .before .loop .inv .0) (omega (arith, c .before .before .before .before .before .before .loop-test .taken)) _ _ _ (c .before .before .trail2 .ensures) (c .before .if2 .taken), c .before .before .before .before .before .before .before .loop .inv .2, c .before .before .before .before .before .before .before .before .before .before .before .before .before .before .before .before .before .before .before .before .before .before .before .before .before .before .before .pre .1, c .before .before .before .before .before .before .before .before .before .before .before .before .emit .ensures .1 .len, length-take-le (c .before .before .before .before .before .before .before .before .before .before .before .before .before .before .before .before .before .before .before .before .before .before .before .before .before .before .before .args .start) (c .before .before .before .before .before .before .before .before .before .before .before .before .emit .last .1 .1 .1 .0) (omega (arith, c .before .before .before .before .before .before .before .before .before .before .before .before .before .before .before .before .before .before .before .before .before .before .before .before .before .before .before .pre .1, c .before .before .before .before .before .before .before .before .before .before .before .before .emit .ensures .1 .len)))
 
 add-emit : tie.Need-add-emit Inv-loop μ-loop
-add-emit c = omega (arith, room _ _ (c .before .before .before .before .before .before .before .before .before .before .before .before .before .before .before .before .before .before .before .before .before .before .before .before .before .before .pre .0) _ _ _ _ _ _ (c .before .before .before .before .before .before .before .before .loop .inv .0) (omega (arith, c .before .before .before .before .before .before .before .loop-test .taken)) _ _ _ (c .before .before .before .trail2 .ensures) (c .before .before .if2 .taken), c .before .before .before .before .before .before .before .before .loop .inv .2, c .before .before .before .before .before .before .before .before .before .before .before .before .before .before .before .before .before .before .before .before .before .before .before .before .before .before .pre .1, c .before .before .before .before .before .before .before .before .before .before .before .emit .ensures .1 .len, length-take-le (c .before .before .before .before .before .before .before .before .before .before .before .before .before .before .before .before .before .before .before .before .before .before .before .before .before .before .args .start) (c .before .before .before .before .before .before .before .before .before .before .before .emit .last .1 .1 .1 .0) (omega (arith, c .before .before .before .before .before .before .before .before .before .before .before .before .before .before .before .before .before .before .before .before .before .before .before .before .before .before .pre .1, c .before .before .before .before .before .before .before .before .before .before .before .emit .ensures .1 .len)), c .before .before .before .before .before .before .before .before .before .before .before .before .before .before .before .before .before .before .before .before .before .before .before .before .before .before .good .1 .1 .1 .0 .0)
+add-emit c = omega (arith, room _ _ (c .before .before .before .before .before .before .before .before .before .before .before .before .before .before .before .before .before .before .before .before .before .before .before .before .before .before .before .before .pre .0) _ _ _ _ _ _ (c .before .before .before .before .before .before .before .before .loop .inv .0) (omega (arith, c .before .before .before .before .before .before .before .loop-test .taken)) _ _ _ (c .before .before .before .trail2 .ensures) (c .before .before .if2 .taken), c .before .before .before .before .before .before .before .before .loop .inv .2, c .before .before .before .before .before .before .before .before .before .before .before .before .before .before .before .before .before .before .before .before .before .before .before .before .before .before .before .before .pre .1, c .before .before .before .before .before .before .before .before .before .before .before .before .before .emit .ensures .1 .len, length-take-le (c .before .before .before .before .before .before .before .before .before .before .before .before .before .before .before .before .before .before .before .before .before .before .before .before .before .before .before .before .args .start) (c .before .before .before .before .before .before .before .before .before .before .before .before .before .emit .last .1 .1 .1 .0) (omega (arith, c .before .before .before .before .before .before .before .before .before .before .before .before .before .before .before .before .before .before .before .before .before .before .before .before .before .before .before .before .pre .1, c .before .before .before .before .before .before .before .before .before .before .before .before .before .emit .ensures .1 .len)), c .before .before .before .before .before .before .before .before .before .before .before .before .before .before .before .before .before .before .before .before .before .before .before .before .before .before .before .before .good .1 .1 .1 .0 .0)
 
 emit-requires-2 : tie.Need-emit-requires-2 Inv-loop μ-loop
-emit-requires-2 c κs = (c .before .before .before .before .trail2 .ensures .few, simp length-set (omega (arith, room _ _ (c .before .before .before .before .before .before .before .before .before .before .before .before .before .before .before .before .before .before .before .before .before .before .before .before .before .before .before .pre .0) _ _ _ _ _ _ (c .before .before .before .before .before .before .before .before .before .loop .inv .0) (omega (arith, c .before .before .before .before .before .before .before .before .loop-test .taken)) _ _ _ (c .before .before .before .before .trail2 .ensures) (c .before .before .before .if2 .taken), c .before .before .before .before .before .before .before .before .before .loop .inv .2, c .before .before .before .before .before .before .before .before .before .before .before .before .before .before .before .before .before .before .before .before .before .before .before .before .before .before .before .pre .1, c .before .before .before .before .before .before .before .before .before .before .before .before .emit .ensures .1 .len, length-take-le (c .before .before .before .before .before .before .before .before .before .before .before .before .before .before .before .before .before .before .before .before .before .before .before .before .before .before .before .args .start) (c .before .before .before .before .before .before .before .before .before .before .before .before .emit .last .1 .1 .1 .0) (omega (arith, c .before .before .before .before .before .before .before .before .before .before .before .before .before .before .before .before .before .before .before .before .before .before .before .before .before .before .before .pre .1, c .before .before .before .before .before .before .before .before .before .before .before .before .emit .ensures .1 .len)))))
+emit-requires-2 c κs = (c .before .before .before .before .trail2 .ensures .few, simp length-set (omega (arith, room _ _ (c .before .before .before .before .before .before .before .before .before .before .before .before .before .before .before .before .before .before .before .before .before .before .before .before .before .before .before .before .before .pre .0) _ _ _ _ _ _ (c .before .before .before .before .before .before .before .before .before .loop .inv .0) (omega (arith, c .before .before .before .before .before .before .before .before .loop-test .taken)) _ _ _ (c .before .before .before .before .trail2 .ensures) (c .before .before .before .if2 .taken), c .before .before .before .before .before .before .before .before .before .loop .inv .2, c .before .before .before .before .before .before .before .before .before .before .before .before .before .before .before .before .before .before .before .before .before .before .before .before .before .before .before .before .before .pre .1, c .before .before .before .before .before .before .before .before .before .before .before .before .before .before .emit .ensures .1 .len, length-take-le (c .before .before .before .before .before .before .before .before .before .before .before .before .before .before .before .before .before .before .before .before .before .before .before .before .before .before .before .before .before .args .start) (c .before .before .before .before .before .before .before .before .before .before .before .before .before .before .emit .last .1 .1 .1 .0) (omega (arith, c .before .before .before .before .before .before .before .before .before .before .before .before .before .before .before .before .before .before .before .before .before .before .before .before .before .before .before .before .before .pre .1, c .before .before .before .before .before .before .before .before .before .before .before .before .before .before .emit .ensures .1 .len)))))
 
 add-key : tie.Need-add-key Inv-loop μ-loop
 add-key c = search needs
@@ -79,14 +85,14 @@ loop-again c =
     (λ w.
     let v = rw (w .1 .ensures) at (w .4 .ensures .1) in (
       rw (w .7, w .8 ∙ w .4 .ensures .0)
-          (one-out _ _ (c .before .before .before .before .before .before .before .before .before .before .before .before .before .before .before .before .before .before .before .before .before .before .before .before .pre .0) _ _ _ _ _ _ (c .before .before .before .before .before .before .loop .inv .0) (omega (arith, c .before .before .before .before .before .loop-test .taken)) _ _ _ (c .before .trail2 .ensures) _ (w .0 .taken) (omega (arith, c .before .before .before .before .before .before .loop .inv .2, c .before .before .before .before .before .before .before .before .before .before .before .before .before .before .before .before .before .before .before .before .before .before .before .before .pre .1, c .before .before .before .before .before .before .before .before .before .emit .ensures .1 .len, length-take-le (c .before .before .before .before .before .before .before .before .before .before .before .before .before .before .before .before .before .before .before .before .before .before .before .before .args .start) (c .before .before .before .before .before .before .before .before .before .emit .last .1 .1 .1 .0) (omega (arith, c .before .before .before .before .before .before .before .before .before .before .before .before .before .before .before .before .before .before .before .before .before .before .before .before .pre .1, c .before .before .before .before .before .before .before .before .before .emit .ensures .1 .len)))) v),
+          (one-out _ _ (c .before .before .before .before .before .before .before .before .before .before .before .before .before .before .before .before .before .before .before .before .before .before .before .before .before .before .pre .0) _ _ _ _ _ _ (c .before .before .before .before .before .before .loop .inv .0) (omega (arith, c .before .before .before .before .before .loop-test .taken)) _ _ _ (c .before .trail2 .ensures) _ (w .0 .taken) (omega (arith, c .before .before .before .before .before .before .loop .inv .2, c .before .before .before .before .before .before .before .before .before .before .before .before .before .before .before .before .before .before .before .before .before .before .before .before .before .before .pre .1, c .before .before .before .before .before .before .before .before .before .before .before .emit .ensures .1 .len, length-take-le (c .before .before .before .before .before .before .before .before .before .before .before .before .before .before .before .before .before .before .before .before .before .before .before .before .before .before .args .start) (c .before .before .before .before .before .before .before .before .before .before .before .emit .last .1 .1 .1 .0) (omega (arith, c .before .before .before .before .before .before .before .before .before .before .before .before .before .before .before .before .before .before .before .before .before .before .before .before .before .before .pre .1, c .before .before .before .before .before .before .before .before .before .before .before .emit .ensures .1 .len)))) v),
       c .before .trail2 .ensures .out-length,
       ap length (w .7) ∙ w .4 .ensures .1 .len ∙ simp length-set (c .before .before .before .before .before .before .loop .inv .2),
       rw (w .7, w .8 ∙ w .4 .ensures .0) (one-rest _ _ _ _ _ _ (c .before .before .before .before .before .before .loop .inv .3) v),
       omega (arith, w .8, w .4 .ensures .0, c .before .before .before .before .before .before .loop .inv .4),
     ))
     (λ w. (
-      rw (w .1, w .2) (none-out _ _ (c .before .before .before .before .before .before .before .before .before .before .before .before .before .before .before .before .before .before .before .before .before .before .before .before .pre .0) _ _ _ _ _ _ (c .before .before .before .before .before .before .loop .inv .0) (omega (arith, c .before .before .before .before .before .loop-test .taken)) _ _ _ (c .before .trail2 .ensures) (omega (arith, w .0 .left))),
+      rw (w .1, w .2) (none-out _ _ (c .before .before .before .before .before .before .before .before .before .before .before .before .before .before .before .before .before .before .before .before .before .before .before .before .before .before .pre .0) _ _ _ _ _ _ (c .before .before .before .before .before .before .loop .inv .0) (omega (arith, c .before .before .before .before .before .loop-test .taken)) _ _ _ (c .before .trail2 .ensures) (omega (arith, w .0 .left))),
       c .before .trail2 .ensures .out-length,
       ap length (w .1) ∙ c .before .before .before .before .before .before .loop .inv .2,
       rw (w .1, w .2) (c .before .before .before .before .before .before .loop .inv .3),
@@ -95,13 +101,13 @@ loop-again c =
     (c .if2 .came)
 
 same-length : tie.Need-same-length Inv-loop μ-loop
-same-length c = c .before .loop .inv .2 ∙ c .before .before .before .before .emit .ensures .1 .len
+same-length c = c .before .loop .inv .2 ∙ c .before .before .before .before .before .before .emit .ensures .1 .len
 
 returns-2 : tie.Need-returns-2 Inv-loop μ-loop
 returns-2 c =
-    let e : drop (c .before .before .before .before .emit .result) (c .before .before .before .before .emit .last .1 .1 .1 .0) ≡ drop (c .before .before .before .before .emit .result) (c .before .before .before .before .before .before .before .before .before .before .before .before .before .before .before .before .before .before .before .args .steps .now) =
-    rw (c .before .before .before .before .emit .ensures .0) (c .before .before .before .before .emit .ensures .1 .rest) in
-    appended-end _ _ (c .before .before .before .before .before .before .before .before .before .before .before .before .before .before .before .before .before .before .before .pre .0) _ _ _ _ _ _ _ (omega (arith, c .before .before .before .before .before .before .before .before .before .before .before .before .before .before .before .before .before .before .before .pre .1)) (rw (emitted-prefix _ _ _ _ _ (omega (arith, c .before .before .before .before .before .before .before .before .before .before .before .before .before .before .before .before .before .before .before .pre .1)) (c .before .before .before .before .emit .ensures .1)) at (c .before .loop .inv .0)) (c .loop-test .left)
+    let e : drop (c .before .before .before .before .before .before .emit .result) (c .before .before .before .before .before .before .emit .last .1 .1 .1 .0) ≡ drop (c .before .before .before .before .before .before .emit .result) (c .before .before .before .before .before .before .before .before .before .before .before .before .before .before .before .before .before .before .before .before .before .args .steps .now) =
+    rw (c .before .before .before .before .before .before .emit .ensures .0) (c .before .before .before .before .before .before .emit .ensures .1 .rest) in
+    appended-end _ _ (c .before .before .before .before .before .before .before .before .before .before .before .before .before .before .before .before .before .before .before .before .before .pre .0) _ _ _ _ _ _ _ (omega (arith, c .before .before .before .before .before .before .before .before .before .before .before .before .before .before .before .before .before .before .before .before .before .pre .1)) (rw (emitted-prefix _ _ _ _ _ (omega (arith, c .before .before .before .before .before .before .before .before .before .before .before .before .before .before .before .before .before .before .before .before .before .pre .1)) (c .before .before .before .before .before .before .emit .ensures .1)) at (c .before .loop .inv .0)) (c .loop-test .left)
     (c .before .loop .inv .3 ∙ drop-more _ _ _ _ (c .before .loop .inv .4) e)
 
 pub star-spec : {M : Type 1} → statement M
@@ -115,6 +121,7 @@ star-spec =
     shared-slice-read-top
     trail-requires
     emit-requires
+    first-key-requires
     loop-holds
     trail-requires-2
     array-read-enter
