@@ -6,18 +6,16 @@ use mathlib.Core.Option.{Option, none, some}
 use mathlib.Core.Path.{_≡_, refl, ap, sym, subst, _∙_}
 use native.Mathlib.Omega.{arith}
 use native.Mathlib.Numerals.{add-one}
-use native.Mathlib.Decide.{ℕ-discrete}
 use borrow.Author.Tests.{lt-ltb, le-ltb, eq-eqb, ne-eqb}
-use lib.ListN.{length, getD}
+use lib.ListN.{length, getD, drop, drop-of-length-le}
 use lib.Dec.{eqb}
 use Rattle.costs.specs.Choice.{_if_otherwise_}
+use Rattle.costs.specs.Laws.{countOf-turn}
 use Rattle.costs.specs.declared.Step.{Step}
 use Rattle.costs.specs.declared.Step.the-variants.{Dup, Swap, PushImm, LoadVal}
 use Rattle.replay.specs.Machine.{Rules, room, immediate}
 use Rattle.replay.specs.Laws.{Ready}
 use Rattle.replay.specs.Stack.{keysOf, length-keys}
-use Rattle.star_swap.specs.Star.{at}
-use Rattle.star_swap.specs.Check.{Counts}
 use Rattle.builders.specs.Draft.{Draft, does}
 use Rattle.costs.specs.Table.{countOf}
 use Rattle.star_swap.specs.Tests.{by-test}
@@ -170,26 +168,43 @@ module _ (n : ℕ) (q : Rules) (k : ℕ) (w₀ : Work) where
     pub adding-last : n ≤ i → TimesDone n q k w₀ (record { ok = true; work = w })
     adding-last l = record { is = sym (sym (v .left) ∙ times-none q k n i (draftOf w) l); room = v .room }
 
--- no key from k to m, m left out, is wanted
-pub record Unwanted (a : List ℕ) (k m : ℕ) : Type 0 where
+-- no key from k to m, m left out, stands in the goal
+pub record Unwanted (goal : List ℕ) (k m : ℕ) : Type 0 where
   pub low : k ≤ m
   pub high : m ≤ 64
-  pub idle : (i : ℕ) → k ≤ i → i < m → getD a i 0 ≡ 0
+  pub idle : (j : ℕ) → k ≤ j → j < m → countOf j goal ≡ 0
 
-pub unwanted-first : (a : List ℕ) (k : ℕ) → k ≤ 64 → Unwanted a k k
-unwanted-first a k h = record { low = omega arith; high = h; idle = λ i l g. absurd (omega arith) }
+-- the same of the first i places of the goal
+pub record Passing (goal : List ℕ) (k m i : ℕ) : Type 0 where
+  pub low : k ≤ m
+  pub high : m ≤ 64
+  pub left : (j : ℕ) → k ≤ j → j < m → countOf j goal ≡ countOf j (drop i goal)
 
-pub unwanted-next : (a : List ℕ) (k m : ℕ) → Unwanted a k m → m < 64 → getD a m 0 ≡ 0 → Unwanted a k (m + 1)
-unwanted-next a k m u h e =
-    record {
-      low = omega (arith, u .low);
-      high = omega arith;
-      idle = λ i l g.
-          elim (ℕ-discrete i m) [
-            | yes s ↦ ap (λ (j : ℕ). getD a j 0) s ∙ e
-            | no s ↦ u .idle i l (omega arith)
-          ];
-    }
+module _ (goal : List ℕ) (k : ℕ) where
+  pub passing-first : k ≤ 64 → Passing goal k 64 0
+  passing-first h = record { low = h; high = omega arith; left = λ j l g. refl }
+
+  pub passing-last : (m i : ℕ) → Passing goal k m i → length goal ≤ i → Unwanted goal k m
+  passing-last m i v h = record { low = v .low; high = v .high; idle = λ j l g. v .left j l g ∙ rw (drop-of-length-le goal {i = i} h) }
+
+  module _ (m i : ℕ) (v : Passing goal k m i) (h : i < length goal) where
+    -- the key at place i lies outside, and m stays or becomes less
+    turn : (n : ℕ) → k ≤ n → n ≤ m → ((j : ℕ) → k ≤ j → j < n → getD goal i 0 ≡ j → ⊥) → Passing goal k n (i + 1)
+    turn n a b f =
+        record {
+          low = a;
+          high = omega (arith, v .high);
+          left = λ j l g. v .left j l (omega arith) ∙ countOf-turn j goal i h ∙ rw (ne-eqb (getD goal i 0) j (f j l g));
+        }
+
+    pub passing-less : k ≤ getD goal i 0 → getD goal i 0 < m → Passing goal k (getD goal i 0) (i + 1)
+    passing-less a b = turn (getD goal i 0) a (omega arith) (λ j l g e. omega arith)
+
+    pub passing-below : getD goal i 0 < k → Passing goal k m (i + 1)
+    passing-below a = turn m (v .low) (omega arith) (λ j l g e. omega arith)
+
+    pub passing-above : m ≤ getD goal i 0 → Passing goal k m (i + 1)
+    passing-above a = turn m (v .low) (omega arith) (λ j l g e. omega arith)
 
 -- the keys in rising order
 pub record FillDone (q : Rules) (goal : List ℕ) (w : Work) (r : Tried) : Type 0 where
@@ -213,11 +228,10 @@ module _ (q : Rules) (goal : List ℕ) (w₀ : Work) where
   pub filling-first : Room w₀ → Filling q goal w₀ w₀ 0
   filling-first f = record { low = omega arith; room = f; left = refl }
 
-  module _ (w : Work) (k : ℕ) (v : Filling q goal w₀ w k) (l : k < 64) (a : List ℕ) (c : Counts goal a) (n : ℕ) (e : n ≡ getD a k 0 - countOf k (keysOf (w .stack))) (r : Tried) (t : TimesDone n q k w r) where
+  module _ (w : Work) (k : ℕ) (v : Filling q goal w₀ w k) (l : k < 64) (n : ℕ) (e : n ≡ countOf k goal - countOf k (keysOf (w .stack))) (r : Tried) (t : TimesDone n q k w r) where
     fill-one : filled (64 - k) k q goal (draftOf w) ≡ andThen (triedOf r) (filled (64 - (k + 1)) (k + 1) q goal)
     fill-one =
-        let m : countOf k goal - countOf k (keysOf (w .stack)) ≡ n = omega (arith, c .each k l) in
-        fill-turn k (draftOf w) l ∙ ap (λ (x : ℕ). andThen (addedTimes x q k (draftOf w)) (filled (64 - (k + 1)) (k + 1) q goal)) m
+        fill-turn k (draftOf w) l ∙ ap (λ (x : ℕ). andThen (addedTimes x q k (draftOf w)) (filled (64 - (k + 1)) (k + 1) q goal)) (sym e)
         ∙ ap (λ (o : Option Draft). andThen o (filled (64 - (k + 1)) (k + 1) q goal)) (sym (t .is))
 
     pub filling-next : r .ok ≡ true → Filling q goal w₀ (r .work) (k + 1)
@@ -228,23 +242,23 @@ module _ (q : Rules) (goal : List ℕ) (w₀ : Work) where
     filling-none g =
         record { is = sym (sym (v .left) ∙ fill-one ∙ ap (λ (o : Option Draft). andThen o (filled (64 - (k + 1)) (k + 1) q goal)) (no-is r g)); room = t .room }
 
-  -- keys that are not wanted are passed over
-  fill-idle : (w : Work) (k : ℕ) → Filling q goal w₀ w k → k < 64 → (a : List ℕ) → Counts goal a → getD a k 0 ≡ 0 → Filling q goal w₀ w (k + 1)
-  fill-idle w k v l a c e =
-      filling-next w k v l a c 0 (omega (arith, e)) (record { ok = true; work = w })
+  -- keys that do not stand in the goal are passed over
+  fill-idle : (w : Work) (k : ℕ) → Filling q goal w₀ w k → k < 64 → countOf k goal ≡ 0 → Filling q goal w₀ w (k + 1)
+  fill-idle w k v l e =
+      filling-next w k v l 0 (omega (arith, e)) (record { ok = true; work = w })
       (record { is = sym (times-none q k 0 0 (draftOf w) (omega arith)); room = v .room }) refl
 
-  passed-by : (w : Work) (a : List ℕ) → Counts goal a → (k n : ℕ) → Filling q goal w₀ w k → Unwanted a k (k + n) → Filling q goal w₀ w (k + n)
-  passed-by w a c k zero v u = subst (Filling q goal w₀ w) {x = k} {y = k + 0} (omega arith) v
-  passed-by w a c k (suc n) v u =
+  passed-by : (w : Work) (k n : ℕ) → Filling q goal w₀ w k → Unwanted goal k (k + n) → Filling q goal w₀ w (k + n)
+  passed-by w k zero v u = subst (Filling q goal w₀ w) {x = k} {y = k + 0} (omega arith) v
+  passed-by w k (suc n) v u =
       subst (Filling q goal w₀ w) {x = k + 1 + n} {y = k + suc n} (omega arith)
-      (passed-by w a c (k + 1) n (fill-idle w k v (omega (arith, u .high)) a c (u .idle k (omega arith) (omega arith)))
+      (passed-by w (k + 1) n (fill-idle w k v (omega (arith, u .high)) (u .idle k (omega arith) (omega arith)))
       (record { low = omega arith; high = omega (arith, u .high); idle = λ i h g. u .idle i (omega arith) (omega arith) }))
 
-  pub filling-passed : (w : Work) (a : List ℕ) → Counts goal a → (k m : ℕ) → Filling q goal w₀ w k → Unwanted a k m → Filling q goal w₀ w m
-  filling-passed w a c k m v u =
+  pub filling-passed : (w : Work) (k m : ℕ) → Filling q goal w₀ w k → Unwanted goal k m → Filling q goal w₀ w m
+  filling-passed w k m v u =
       let e : k + (m - k) ≡ m = omega (arith, u .low) in
-      subst (Filling q goal w₀ w) e (passed-by w a c k (m - k) v (subst (Unwanted a k) (sym e) u))
+      subst (Filling q goal w₀ w) e (passed-by w k (m - k) v (subst (Unwanted goal k) (sym e) u))
 
   pub filling-last : (w : Work) (k : ℕ) → Filling q goal w₀ w k → 64 ≤ k → FillDone q goal w₀ (record { ok = true; work = w })
   filling-last w k v l = record { is = sym (sym (v .left) ∙ fill-none k (draftOf w) l); room = v .room }

@@ -213,7 +213,7 @@ fn first_of(stack: Stack, key: u8) -> usize
 }
 
 // How often each key stands in the window.
-fn counts_of(stack: Stack) -> [usize; 64]
+fn counts_of(stack: Stack) -> [u8; 64]
     requires { ⌜ stack .len ≤ 21 ⌝ }
     ensures { λ r. ⌜ Counts (keysOf stack) r ⌝ }
 {
@@ -224,7 +224,7 @@ fn counts_of(stack: Stack) -> [usize; 64]
 }
 
 // The place of the first key of which there are more than `wanted` says, or the window's length.
-fn surplus_at(stack: Stack, wanted: &[usize; 64]) -> usize
+fn surplus_at(stack: Stack, wanted: &[u8; 64]) -> usize
     requires { ⌜ (stack .len ≤ 21) × Small (keysOf stack) ⌝ }
     ensures { λ r. ⌜ r ≡ firstAt (moreThan (now (wanted .entry)) (keysOf stack)) (keysOf stack) ⌝ }
 {
@@ -397,19 +397,23 @@ fn missing(stack: Stack, key: u8, want: usize) -> usize
     if have < want { want - have } else { 0 }
 }
 
-// The first wanted key from a key on, or 64.
-fn next_wanted(wanted: &[usize; 64], from: u8) -> u8
-    requires { ⌜ (from ≤ 64) × (length (now wanted) ≡ 64) ⌝ }
-    ensures { λ r. ⌜ Unwanted (now (wanted .entry)) from r ⌝ }
+// The least key of the goal from a key on, or 64.
+fn next_wanted(goal: &[u8], from: u8) -> u8
+    requires { ⌜ from ≤ 64 ⌝ }
+    ensures { λ r. ⌜ Unwanted (now (goal .entry)) from r ⌝ }
 {
-    let mut key = from;
-    while key <= 63 {
-        if wanted[key as usize] != 0 {
-            return key;
+    let mut least: u8 = 64;
+    let mut i: usize = 0;
+    while i < goal.len() {
+        let key = goal[i];
+        i += 1;
+        if from <= key {
+            if key < least {
+                least = key;
+            }
         }
-        key += 1;
     }
-    key
+    least
 }
 
 // The missing keys in rising order.
@@ -419,14 +423,14 @@ fn fill(work: Place, goal: &[u8], cfg: SearchCfg, kinds: &[u8], steps: &mut [u16
 {
     let wanted = star_swap::counts(goal);
     let mut w = work;
-    let mut key = next_wanted(&wanted, 0);
+    let mut key = next_wanted(goal, 0);
     while key < 64 {
-        let want = wanted[key as usize];
+        let want = wanted[key as usize] as usize;
         let n = missing(w.stack, key, want);
         let a = add_times(w, n, key, cfg, kinds, steps);
         w = a.at;
         if a.ok {
-            key = next_wanted(&wanted, key + 1);
+            key = next_wanted(goal, key + 1);
         } else {
             return Reach { ok: false, at: w };
         }
@@ -436,7 +440,7 @@ fn fill(work: Place, goal: &[u8], cfg: SearchCfg, kinds: &[u8], steps: &mut [u16
 
 // Whether star-swap refuses the window.
 fn cannot_route(stack: Stack, goal: &[u8], swap_max: usize) -> bool
-    requires { ⌜ stack .len ≤ 21 ⌝ }
+    requires { ⌜ (stack .len ≤ 21) × Window (now goal) ⌝ }
     ensures { λ r. ⌜ r ≡ unroutable «swap_max» (keysOf stack) (now (goal .entry)) ⌝ }
 {
     let n = stack.len;

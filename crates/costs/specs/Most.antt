@@ -7,9 +7,9 @@ use native.Mathlib.Omega.{arith}
 use native.Mathlib.Decide.{decLt}
 use borrow.Author.Tests.{lt-ltb, le-ltb}
 use lib.Dec.{ltb}
-use lib.ListN.{length, getD, drop}
+use lib.ListN.{length, getD, drop, drop-of-length-le}
 use Rattle.costs.specs.Table.{anyOver}
-use Rattle.costs.specs.Laws.{drop-turn}
+use Rattle.costs.specs.Laws.{drop-turn, anyOver-turn}
 
 -- the greatest of m and the numbers of the list
 abbrev pub mostFrom : ℕ → List ℕ → ℕ
@@ -37,14 +37,31 @@ over-larger limit m x =
           ]
     ]
 
+or-none : (b : Bool) → b ≡ (b || false)
+or-none true = refl
+or-none false = refl
+
+or-true : (b : Bool) → (b || true) ≡ true
+or-true true = refl
+or-true false = refl
+
 over-from : (limit m : ℕ) (l : List ℕ) → ltb limit (mostFrom m l) ≡ (ltb limit m || anyOver limit l)
 over-from limit m [] = or-none (ltb limit m)
-  where
-    or-none : (b : Bool) → b ≡ (b || false)
-    or-none true = refl
-    or-none false = refl
 over-from limit m (x ∷ l) = over-from limit (max m x) l ∙ ap (λ (b : Bool). b || anyOver limit l) (over-larger limit m x) ∙ or-assoc (ltb limit m) (ltb limit x) (anyOver limit l)
 
 -- some number is over the limit if the greatest is
 pub over-most : (limit : ℕ) (l : List ℕ) → ltb limit (mostFrom 0 l) ≡ anyOver limit l
 over-most limit l = over-from limit 0 l ∙ ap (λ (b : Bool). b || anyOver limit l) (le-ltb limit 0 (omega arith))
+
+-- the same by a count n of those over the limit among the first i
+module _ (limit : ℕ) (l : List ℕ) (n i : ℕ) (v : anyOver limit l ≡ (ltb 0 n || anyOver limit (drop i l))) where
+  pub over-seen : i < length l → limit < getD l i 0 → anyOver limit l ≡ (ltb 0 (n + 1) || anyOver limit (drop (i + 1) l))
+  over-seen h o =
+      let e : anyOver limit (drop i l) ≡ true = anyOver-turn limit l i h ∙ rw (lt-ltb limit (getD l i 0) o) in
+      v ∙ ap (λ (b : Bool). ltb 0 n || b) e ∙ or-true (ltb 0 n) ∙ rw (lt-ltb 0 (n + 1) (omega arith))
+
+  pub over-next : i < length l → getD l i 0 ≤ limit → anyOver limit l ≡ (ltb 0 n || anyOver limit (drop (i + 1) l))
+  over-next h o = v ∙ ap (λ (b : Bool). ltb 0 n || b) (anyOver-turn limit l i h ∙ rw (le-ltb limit (getD l i 0) o))
+
+  pub over-none : length l ≤ i → ltb 0 n ≡ anyOver limit l
+  over-none h = sym (v ∙ ap (λ (b : Bool). ltb 0 n || b) {y = false} (rw (drop-of-length-le l h)) ∙ sym (or-none (ltb 0 n)))

@@ -152,30 +152,20 @@ pub fn any_over(list: &[u8], limit: u8) -> bool
     limit < greatest(list)
 }
 
-fn larger_price(a: u32, b: u32) -> u32
-    ensures { λ r. ⌜ r ≡ max a b ⌝ }
-{
-    if a < b { b } else { a }
-}
-
-// The greatest price, and 0 of none.
-fn greatest_price(list: &[u32]) -> u32
-    ensures { λ r. ⌜ r ≡ mostFrom 0 (now (list .entry)) ⌝ }
-{
-    let mut most: u32 = 0;
-    let mut i = 0;
-    while i < list.len() {
-        most = larger_price(most, list[i]);
-        i += 1;
-    }
-    most
-}
-
-// Whether some price is over the limit.
+// Whether some price is over the limit. All are looked at and counted, so that nothing but the loop branches.
 fn any_price_over(list: &[u32], limit: u32) -> bool
+    requires { ⌜ length (now list) ≤ 255 ⌝ }
     ensures { λ r. ⌜ r ≡ anyOver limit (now (list .entry)) ⌝ }
 {
-    limit < greatest_price(list)
+    let mut n: u32 = 0;
+    let mut i = 0;
+    while i < list.len() {
+        if limit < list[i] {
+            n += 1;
+        }
+        i += 1;
+    }
+    0 < n
 }
 
 // How many bytes of the list are k.

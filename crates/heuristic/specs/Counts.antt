@@ -1,6 +1,6 @@
 -- How often each key stands in a list, as a table of 64 numbers.
 use Prim.Native.Nat.{ℕ, zero, suc, _+_, _-_, _*_, min, _≤_, _<_}
-use mathlib.Core.Path.{_≡_, refl, ap, sym, _∙_}
+use mathlib.Core.Path.{_≡_, refl, sym, _∙_}
 use mathlib.Core.Bool.{Bool, true, false}
 use mathlib.Core.List.{List, [], _∷_}
 use native.Mathlib.Omega.{arith}
@@ -14,8 +14,7 @@ use Rattle.costs.specs.Cost.{capped}
 use Rattle.costs.specs.Choice.{_if_otherwise_}
 use Rattle.costs.specs.Table.{countOf}
 use Rattle.costs.specs.declared.Step.the-variants.{Pop, Dup, PushImm}
-use Rattle.heuristic.specs.Heuristic.{times, gasOf, term, sumTo, keyTerm, estimate, leastDup, heuristicOf}
-use Rattle.costs.specs.declared.Cost.{Cost}
+use Rattle.heuristic.specs.Heuristic.{times, gasOf, term, sumTo, leastDup}
 
 -- the table has the count of each key in the list
 pub record Counted (table xs : List ℕ) : Type 0 where
@@ -65,10 +64,6 @@ KeysFit ks = (i : ℕ) → i < length ks → getD ks i 0 < 64
 unfoldable pub countTerm : (prices : List ℕ) → (dup : ℕ) → (want : List ℕ) → (k count : ℕ) → ℕ
 countTerm prices dup want k count = term (gasOf prices Pop) dup (gasOf prices (PushImm k)) count (getD want k 0)
 
--- a key's term by two tables
-unfoldable pub tableTerm : (prices : List ℕ) → (dup : ℕ) → (have want : List ℕ) → ℕ → ℕ
-tableTerm prices dup have want k = countTerm prices dup want k (getD have k 0)
-
 pub sum-same : (f g : ℕ → ℕ) (n : ℕ) → ((k : ℕ) → k < n → f k ≡ g k) → sumTo f n ≡ sumTo g n
 unfolding sumTo
 sum-same f g zero h = refl
@@ -76,18 +71,6 @@ sum-same f g (suc n) h =
     let e : sumTo f n ≡ sumTo g n = sum-same f g n (λ k l. h k (omega arith)) in
     let d : f n ≡ g n = h n (omega arith) in
     rw (e, d)
-
-pub table-term : (prices : List ℕ) (dup : ℕ) (have want w goal : List ℕ) → Counted have w → Counted want goal → (k : ℕ) → k < 64 → tableTerm prices dup have want k ≡ keyTerm prices dup goal w k
-unfolding tableTerm countTerm keyTerm
-table-term prices dup have want w goal a b k l = rw (a .at k l, b .at k l)
-
-pub table-sum : (prices : List ℕ) (dup : ℕ) (have want w goal : List ℕ) → Counted have w → Counted want goal → sumTo (tableTerm prices dup have want) 64 ≡ sumTo (keyTerm prices dup goal w) 64
-table-sum prices dup have want w goal a b = sum-same (tableTerm prices dup have want) (keyTerm prices dup goal w) 64 (table-term prices dup have want w goal a b)
-
--- the answer of the whole
-pub heuristic-is : (prices : List ℕ) (dupMax : ℕ) (goal w : List ℕ) (dup : ℕ) (have want : List ℕ) (gas : ℕ) → Counted have w → Counted want goal → dup ≡ leastDup prices dupMax → gas ≡ sumTo (tableTerm prices dup have want) 64 → _≡_ {A = Cost} (record { gas = gas; bytes = 0 }) (heuristicOf prices dupMax goal w)
-unfolding heuristicOf estimate
-heuristic-is prices dupMax goal w dup have want gas a b e h = rw (h, table-sum prices dup have want w goal a b, e)
 
 -- a list from the end: one key more
 pub count-turn : (table list : List ℕ) (i : ℕ) → 0 < i → i ≤ length list → KeysFit list → Counted table (drop i list) → Counted (set table (getD list (i - 1) 0) (getD table (getD list (i - 1) 0) 0 + 1)) (drop (i - 1) list)
@@ -140,10 +123,6 @@ product-fits a b h k = mul-le-mul h k
 pub term-by : (prices : List ℕ) (dup : ℕ) (want : List ℕ) (k pop mat h w r : ℕ) → pop ≡ gasOf prices Pop → mat ≡ gasOf prices (PushImm k) → w ≡ getD want k 0 → r ≡ term pop dup mat h w → r ≡ countTerm prices dup want k h
 unfolding countTerm
 term-by prices dup want k pop mat h w r a b d e = rw (← a, ← b, ← d) e
-
-pub table-by : (prices : List ℕ) (dup : ℕ) (have want : List ℕ) (k h r : ℕ) → h ≡ getD have k 0 → r ≡ countTerm prices dup want k h → r ≡ tableTerm prices dup have want k
-unfolding tableTerm
-table-by prices dup have want k h r a e = rw (← a) e
 
 pub count-end : (table list : List ℕ) (i : ℕ) → i ≤ 0 → Counted table (drop i list) → Counted table list
 count-end table list i l c = let z : i ≡ 0 = omega arith in rw z at c

@@ -1,5 +1,4 @@
 // The heuristic of the search: what is left to pop, to copy and to materialize, key by key.
-use costs::Cost;
 use costs::Decoded;
 use costs::Step;
 use window::PackedState;
@@ -9,8 +8,8 @@ ghost use Prim.Native.Nat.{ℕ, _+_, _-_, _<_, _≤_, min};
 ghost use lib.ListN.{length, getD, set};
 ghost use Rattle.costs.specs.declared.Step.{Step};
 ghost use Rattle.window.specs.Keys.{keysOf, Window};
-ghost use Rattle.heuristic.specs.Heuristic.{times, gasOf, leastDup, term, sumTo, keyTerm, heuristicOf};
-ghost use Rattle.heuristic.specs.Counts.{Counted, KeysFit, countTerm, tableTerm};
+ghost use Rattle.heuristic.specs.Heuristic.{times, gasOf, leastDup, term, sumTo, keyTerm};
+ghost use Rattle.heuristic.specs.Counts.{Counted, KeysFit, countTerm};
 ghost use Rattle.heuristic.specs.Steady.{Changing, Standing};
 ghost use Rattle.heuristic.specs.Bare.{bareTerm, overKeys};
 
@@ -125,37 +124,6 @@ fn count_term(want: &[u8], dup: u32, prices: &[u32], key: u8, count: u8) -> u32
     let pop = gas_of(prices, Step::Pop);
     let mat = gas_of(prices, Step::PushImm(key));
     key_term(pop, dup, mat, count, w)
-}
-
-// What all keys add, by the tables of counts.
-pub fn sum_of(have: &[u8], want: &[u8], dup: u32, prices: &[u32]) -> u32
-    requires { ⌜ (length (now have) ≡ 64) × (length (now want) ≡ 64) ⌝ }
-    ensures { λ r. ⌜ r ≡ sumTo (tableTerm (now (prices .entry)) dup (now (have .entry)) (now (want .entry))) 64 ⌝ }
-{
-    let mut sum = 0;
-    let mut k: u8 = 0;
-    while k < 64 {
-        let count = at(have, k);
-        sum = costs::saturating_add(sum, count_term(want, dup, prices, k, count));
-        k += 1;
-    }
-    sum
-}
-
-// The heuristic of a window.
-pub fn heuristic(state: PackedState, goal: &[u8], dup_max: usize, prices: &[u32]) -> Cost
-    requires { ⌜ Window state × KeysFit (now goal) × (length (now goal) ≤ 21) × («dup_max» ≤ 16) ⌝ }
-    ensures { λ r. ⌜ r ≡ heuristicOf (now (prices .entry)) «dup_max» (now (goal .entry)) (keysOf state) ⌝ }
-{
-    let mut have = [0u8; 64];
-    count_window(state, &mut have);
-    let mut want = [0u8; 64];
-    count_list(goal, &mut want);
-    let dup = least_dup(prices, dup_max);
-    Cost {
-        gas: sum_of(&have, &want, dup, prices),
-        bytes: 0,
-    }
 }
 
 // An estimate with one key more, of which so many copies are there.

@@ -17,7 +17,7 @@ use Rattle.window.specs.State.{whole}
 use Rattle.window.specs.Keys.{keysOf}
 use Rattle.algebra.specs.GasBytes.{gas-bytes}
 use Rattle.astar.specs.Cost.{same}
-use Rattle.astar.specs.Search.{Problem, Succ, Allowance, Ending, drained, cutOff, states, expansions, number, Entry, Work, Hand, Search, find, stepOf, cut, record-goal, offers, over, without, expanded, turn, stop, go, Turn}
+use Rattle.astar.specs.Search.{Problem, Succ, Allowance, Ending, drained, cutOff, states, expansions, number, Entry, Work, Hand, Search, find, entryOf, stepOf, cut, record-goal, offers, over, without, expanded, turn, stop, go, Turn}
 use Rattle.astar.specs.Turns.{Reach, here}
 use Rattle.astar.specs.Again.{Ends}
 use Rattle.astar.specs.Rows.{length-rows}
@@ -37,7 +37,7 @@ use Rattle.lists.proofs.Queue.{queue-length}
 use Rattle.offer.specs.View.{handOf, workOf, Now}
 use Rattle.offer.specs.declared.Held.{Held}
 use Rattle.offer.specs.declared.Sizes.{Sizes}
-use Rattle.search.specs.View.{rulesOf, allOffered, IsWindow}
+use Rattle.search.specs.View.{rulesOf, allOffered, IsWindow, Awaits, Estimated}
 use Rattle.run.specs.View.{problemFor, allowance, searchOf, Roomy, Ran}
 use Rattle.run.specs.declared.Ask.{Ask}
 use Rattle.run.specs.declared.Limits.{Limits}
@@ -49,6 +49,10 @@ window-led : (q : Question) → Bounds q → (v : ℕ) (p : Option ℕ) (x : Suc
 window-led q b v p x W m =
     let r : Led q b [] (W .keys) x = successor-led q b [] (W .keys) (W .below) (W .fits) p x (subst (λ (u : ℕ). List·Memᴰ x (problemOf q [] .after u p)) (W .packed) m) in
     record { keys = r .window; packed = r .packed; below = r .keys; fits = r .fits }
+
+-- every successor's entry is of a window, with its estimate in its f
+entry-led : (q : Question) (a : Ask) → Bounds q → (e : Entry Cost) (g : Cost) (p : Option ℕ) (x : Succ Cost ℕ) → Awaits q e → List·Memᴰ x (problemFor q a .after (e .state) p) → Awaits q (entryOf gas-bytes (problemFor q a) g x)
+entry-led q a b e g p x W m = record { window = window-led q b (e .state) p x (W .window) m; summed = refl }
 
 after-is : (q : Question) (s : PackedState) (o : Option ℕ) (d : ℕ) → d ≡ depthOfCode o → problemOf q [] .after (whole s) o ≡ edgesFrom q (keysOf s) d
 unfolding keysOf
@@ -63,11 +67,11 @@ pub record Pass (q : Question) (a : Ask) (l : Limits) (s₀ : Search Cost ℕ) (
   pub list-long : length os ≡ length os₀
   pub few : k ≤ l .most
   pub bounds : Bounds q
-  pub windows : AllValid gas-bytes (IsWindow q) (queueOf os (at .list))
+  pub waiting : AllValid gas-bytes (Awaits q) (queueOf os (at .list))
   pub reach : Reach gas-bytes (problemFor q a) (allowance l) (searchOf xs os at h k) s₀
 
-pub pass-first : (q : Question) (a : Ask) (l : Limits) (xs hs os : List ℕ) (at : Sizes) (h : Held) → Kept xs hs (at .nodes) → Piled os (at .list) → Bounds q → AllValid gas-bytes (IsWindow q) (queueOf os (at .list)) → Pass q a l (searchOf xs os at h 0) xs hs os xs hs os at h 0
-pass-first q a l xs hs os at h K P b W = record { kept = K; piled = P; nodes-long = refl; heads-long = refl; list-long = refl; few = omega arith; bounds = b; windows = W; reach = here refl }
+pub pass-first : (q : Question) (a : Ask) (l : Limits) (xs hs os : List ℕ) (at : Sizes) (h : Held) → Kept xs hs (at .nodes) → Piled os (at .list) → Bounds q → AllValid gas-bytes (Awaits q) (queueOf os (at .list)) → Pass q a l (searchOf xs os at h 0) xs hs os xs hs os at h 0
+pass-first q a l xs hs os at h K P b W = record { kept = K; piled = P; nodes-long = refl; heads-long = refl; list-long = refl; few = omega arith; bounds = b; waiting = W; reach = here refl }
 
 work-eq : {a b : List SearchNode} {c d : List (Entry Cost)} → a ≡ b → c ≡ d → _≡_ {A = Work Cost ℕ} (record { nodes = a; queue = c }) (record { nodes = b; queue = d })
 work-eq e f = cc
@@ -91,8 +95,8 @@ module _ (q : Question) (a : Ask) (l : Limits) (s₀ : Search Cost ℕ) (xs₀ h
   abbrev s : Search Cost ℕ
   s = searchOf xs os at h k
 
-  still : (t : Search Cost ℕ) → turn gas-bytes Q A s ≡ go t → AllValid gas-bytes (IsWindow q) (t .work .queue)
-  still t e = go-valid gas-bytes (IsWindow q) Q (window-led q (P .bounds)) A s t e (P .windows)
+  still : (t : Search Cost ℕ) → turn gas-bytes Q A s ≡ go t → AllValid gas-bytes (Awaits q) (t .work .queue)
+  still t e = go-valid gas-bytes (Awaits q) Q (entry-led q a (P .bounds)) A s t e (P .waiting)
 
   ran : (x : Ending) → turn gas-bytes Q A s ≡ stop x → Ran q a l s₀ xs hs (record { held = h; nodes = at .nodes; count = k; ending = number x })
   ran x t = record { last = s; ending = x; ends = record { reached = P .reach; stopped = t }; nodes-are = refl; hand-is = refl; count-is = refl; number-is = refl; kept = P .kept; few = P .few }
@@ -110,7 +114,7 @@ module _ (q : Question) (a : Ask) (l : Limits) (s₀ : Search Cost ℕ) (xs₀ h
     es = queueOf ps (at .list - 1)
 
     onward : length ps ≡ length os → (h′ : Held) → turn gas-bytes Q A s ≡ go (searchOf xs ps left h′ k) → Pass q a l s₀ xs₀ hs₀ os₀ xs hs ps left h′ k
-    onward lp h′ t = record { kept = P .kept; piled = T .piled; nodes-long = P .nodes-long; heads-long = P .heads-long; list-long = lp ∙ P .list-long; few = P .few; bounds = P .bounds; windows = still (searchOf xs ps left h′ k) t; reach = reach-on gas-bytes Q A (P .reach) t }
+    onward lp h′ t = record { kept = P .kept; piled = T .piled; nodes-long = P .nodes-long; heads-long = P .heads-long; list-long = lp ∙ P .list-long; few = P .few; bounds = P .bounds; waiting = still (searchOf xs ps left h′ k) t; reach = reach-on gas-bytes Q A (P .reach) t }
 
     module _ (kn : Known) (kE : recalled kn ≡ find (stateOf (e .hi) (e .lo)) (nodesOf xs (at .nodes))) where
       pub passed-lost : kn ≡ New → length ps ≡ length os → Pass q a l s₀ xs₀ hs₀ os₀ xs hs ps left h k
@@ -172,8 +176,14 @@ module _ (q : Question) (a : Ask) (l : Limits) (s₀ : Search Cost ℕ) (xs₀ h
                 unfolding number
                 ended-expansions y = ran expansions (turn-expansions gas-bytes Q A s (waits e) es (T .taken) (nodeIs v) f fresh no-goal (sym uE ∙ m) (over-is ∙ w) (le-leb (l .most) k y))
 
+                awaits : Awaits q (waits e)
+                awaits = first-valid gas-bytes (Awaits q) (queueOf os (at .list)) (waits e) es (T .taken) (P .waiting)
+
                 pub expand-window : IsWindow q (stateOf (e .hi) (e .lo))
-                expand-window = first-valid gas-bytes (IsWindow q) (queueOf os (at .list)) (waits e) es (T .taken) (P .windows)
+                expand-window = awaits .window
+
+                pub expand-estimated : Estimated q (record { state = record { hi = e .hi; lo = e .lo }; cost = e .g }) (e .f)
+                expand-estimated = awaits .summed
 
                 pub passed-expanded :
                     k < l .most → (d : ℕ) → d ≡ depthOfCode (stepOf (parentIs (v .parent))) → (ys gs zs : List ℕ) (r : Sizes) →
@@ -188,7 +198,7 @@ module _ (q : Question) (a : Ask) (l : Limits) (s₀ : Search Cost ℕ) (xs₀ h
                   list-long = lz ∙ lp ∙ P .list-long;
                   few = omega arith;
                   bounds = P .bounds;
-                  windows = still (searchOf ys zs r h (k + 1)) turned;
+                  waiting = still (searchOf ys zs r h (k + 1)) turned;
                   reach = reach-on gas-bytes Q A (P .reach) turned;
                 }
                   where

@@ -8,7 +8,7 @@ ghost use Rattle.algebra.specs.GasBytes.{«gas-bytes»};
 ghost use Rattle.astar.specs.Valid.{AllValid};
 ghost use Rattle.lists.specs.View.{queueOf, Kept, Piled};
 ghost use Rattle.search.specs.Table.{questionOf, Ready};
-ghost use Rattle.search.specs.View.{IsWindow};
+ghost use Rattle.search.specs.View.{Awaits};
 ghost use Rattle.run.specs.View.{searchOf, Roomy, Ran};
 use lists::Known;
 use offer::Held;
@@ -69,7 +69,7 @@ pub fn run(
     requires { ⌜ Piled (now list) (sizes .list) ⌝ }
     requires { ⌜ Roomy limits (now nodes) (now list) ⌝ }
     requires { ⌜ Ready setup (now table) (now prices) ⌝ }
-    requires { ⌜ AllValid «gas-bytes» (IsWindow (questionOf setup (now table) (now prices))) (queueOf (now list) (sizes .list)) ⌝ }
+    requires { ⌜ AllValid «gas-bytes» (Awaits (questionOf setup (now table) (now prices))) (queueOf (now list) (sizes .list)) ⌝ }
     ensures { λ r. ⌜ Ran (questionOf setup (now (table .entry)) (now (prices .entry))) ask limits (searchOf (now (nodes .entry)) (now (list .entry)) sizes first 0) (now (nodes .exit)) (now (heads .exit)) r ⌝ }
 {
     let mut at = sizes;
@@ -108,7 +108,19 @@ pub fn run(
         let parent = node.parent;
         let last = search::last_depth(parent);
         let p = Origin { state, cost: e.g };
-        at = search::expand(nodes, heads, list, table, prices, setup, at, held, p, last);
+        at = search::expand(
+            nodes,
+            heads,
+            list,
+            table,
+            prices,
+            setup,
+            at,
+            held,
+            p,
+            e.f,
+            last,
+        );
         count += 1;
     };
     Left {

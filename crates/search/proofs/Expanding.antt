@@ -1,36 +1,39 @@
 -- The parts of the table, and an expansion as a whole.
 use mathlib.Core.Path.{_≡_, refl, sym, ap, ap₂, _∙_, subst}
 use mathlib.Core.List.{List, [], _∷_, map}
-use Prim.Native.Nat.{ℕ, zero, suc, _+_, _-_, _*_, _≤_, _<_, min}
+use Prim.Native.Nat.{ℕ, zero, suc, _+_, _-_, _*_, _/_, _≤_, _<_, min}
 use native.Mathlib.Omega.{arith}
 use lib.ListN.{length, getD, take, drop, length-take, length-drop}
 use Rattle.costs.specs.declared.Cost.{Cost}
 use Rattle.costs.specs.declared.Step.{Step}
 use Rattle.costs.specs.declared.Decoded.{Decoded}
 use Rattle.costs.specs.declared.Decoded.the-variants.{Known}
+use Rattle.costs.specs.Packed.{costOf}
 use Rattle.costs.specs.Step.{codeOf, decoded}
 use Rattle.costs.specs.Laws.{decoded-code}
 use Rattle.window.specs.declared.PackedState.{PackedState}
 use Rattle.window.specs.Pack.{Keys, pack}
 use Rattle.window.specs.State.{Held as Holds, whole}
 use Rattle.window.specs.Keys.{keysOf, Window, keys-length, held-keys}
+use Rattle.astar.specs.Pairs.{sat}
 use Rattle.astar.specs.Search.{Succ, Work}
 use Rattle.successors.specs.Parts.{All}
 use Rattle.successors.specs.Successors.{Question, firsts, stepsFrom}
 use Rattle.successors.specs.Limits.{Bounds, Fine, steps-fine}
 use Rattle.successors.specs.Whole.{asked, Expandable, Expanded}
+use Rattle.heuristic.specs.Heuristic.{sumTo, keyTerm, estimate, heuristicOf}
 use Rattle.heuristic.specs.Counts.{Counted}
 use Rattle.heuristic.specs.Steady.{Cheap, cheap}
 use Rattle.problem.specs.Problem.{edge, edgesFrom, problemOf}
 use Rattle.problem.specs.Replays.{operand-fits}
-use Rattle.moves.specs.Moves.{Asking}
+use Rattle.moves.specs.Moves.{Asking, Parent}
 use Rattle.moves.specs.Codes.{Coded, expansion-coded}
 use Rattle.offer.specs.View.{workOf, Now}
 use Rattle.offer.specs.declared.Held.{Held}
 use Rattle.offer.specs.declared.Origin.{Origin}
 use Rattle.offer.specs.declared.Sizes.{Sizes}
 use Rattle.search.specs.Table.{kindsIn, wantIn, goalIn, keysIn, questionOf, Ready}
-use Rattle.search.specs.View.{stepIn, edgeBy, allOffered, AllCoded, IsWindow}
+use Rattle.search.specs.View.{stepIn, edgeBy, allOffered, AllCoded, IsWindow, Estimated}
 use Rattle.search.specs.declared.Setup.{Setup}
 
 -- ---- parts
@@ -62,6 +65,36 @@ module _ (s : Setup) (t prices : List ℕ) (R : Ready s t prices) where
 
   pub asking : Asking prices (wantIn t) (take (128 + s .goal + s .keys - (128 + s .goal)) (drop (128 + s .goal) t)) (goalIn s t)
   asking = rw keys-part (record { prices-cheap = prices-cheap; wanted = R .wanted; goal-keys = R .bounds .keys; short = goal-short; keys-are = R .firsts-are })
+
+  -- the estimate of a drawn state, from its cost and its f
+  module _ (p : Origin) (f : ℕ) (E : Estimated (questionOf s t prices) p f) where
+    abbrev left : ℕ
+    left = estimate prices (s .cfg .«dup_max») (goalIn s t) (keysOf (p .state))
+
+    gas-is : f / 4294967296 ≡ sat (p .cost / 4294967296) left
+    unfolding costOf keysOf heuristicOf
+    gas-is = ap (λ (c : Cost). c .gas) E
+
+    pub cost-below : p .cost / 4294967296 ≤ f / 4294967296
+    unfolding sat
+    cost-below = omega (arith, gas-is)
+
+    pub drawn-is : (have : List ℕ) → Window (p .state) → Counted have (keysOf (p .state)) → p .cost < 18446744073709551616 → (f / 4294967296 ≡ 4294967295 → ⊥) → Parent prices (s .dup) (f / 4294967296 - p .cost / 4294967296) have (wantIn t) (p .state) (goalIn s t) (s .cfg .«dup_max»)
+    unfolding sat estimate
+    drawn-is have w c low ne =
+        let e : f / 4294967296 - p .cost / 4294967296 ≡ left = omega (arith, gas-is) in
+        record {
+          window = w;
+          standing = record {
+            prices-cheap = prices-cheap;
+            counted = c;
+            wanted = R .wanted;
+            sum = e ∙ ap (λ (d : ℕ). sumTo (keyTerm prices d (goalIn s t) (keysOf (p .state))) 64) (sym (R .least));
+            size = omega (arith, keys-length (p .state), goal-short);
+          };
+          short = goal-short;
+          least = R .least;
+        }
 
   pub want-long : length (take 64 (drop 64 t)) ≡ 64
   want-long = R .wanted .size

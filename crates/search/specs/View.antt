@@ -14,7 +14,7 @@ use Rattle.costs.specs.Packed.{costOf}
 use Rattle.window.specs.Pack.{Keys, pack}
 use Rattle.window.specs.State.{whole}
 use Rattle.algebra.specs.GasBytes.{gas-bytes}
-use Rattle.astar.specs.Search.{Succ, Work, offers}
+use Rattle.astar.specs.Search.{Entry, Succ, Work, offers}
 use Rattle.successors.specs.Successors.{Question}
 use Rattle.problem.specs.Problem.{edge, problemOf}
 use Rattle.moves.specs.Codes.{Coded}
@@ -56,3 +56,12 @@ pub record IsWindow (q : Question) (v : ℕ) : Type 0 where
   pub packed : v ≡ pack 6 keys
   pub below : Keys 6 keys
   pub fits : length keys ≤ q .rules .maxLen
+
+-- The open entry e is of a window of the question, and its f is its g and the window's estimate.
+pub record Awaits (q : Question) (e : Entry Cost) : Type 0 where
+  pub window : IsWindow q (e .state)
+  pub summed : e .f ≡ gas-bytes ._⊞_ (e .g) (problemOf q [] .est (e .state))
+
+-- the number f stands for the cost of p and its estimate
+abbrev pub Estimated : Question → Origin → ℕ → Type 0
+Estimated q p f = costOf f ≡ gas-bytes ._⊞_ (costOf (p .cost)) (problemOf q [] .est (whole (p .state)))

@@ -16,7 +16,7 @@ ghost use Rattle.successors.specs.Whole.{Expanded};
 ghost use Rattle.lists.specs.View.{parentIs, Kept, Piled};
 ghost use Rattle.offer.specs.View.{workOf, Now};
 ghost use Rattle.search.specs.Table.{wantIn, goalIn, questionOf, Ready};
-ghost use Rattle.search.specs.View.{edgeBy, allOffered, Followed, AllCoded, IsWindow};
+ghost use Rattle.search.specs.View.{edgeBy, allOffered, Followed, AllCoded, IsWindow, Estimated};
 use lists::Parent;
 use offer::Held;
 use offer::Origin;
@@ -142,7 +142,13 @@ fn steps_of(
 }
 
 // The estimate of a state, and the counts of its keys into a table of zeros.
-fn standing(state: PackedState, setup: Setup, table: &[u8], prices: &[u32], have: &mut [u8]) -> u32
+pub fn standing(
+    state: PackedState,
+    setup: Setup,
+    table: &[u8],
+    prices: &[u32],
+    have: &mut [u8],
+) -> u32
     requires { ⌜ Ready setup (now table) (now prices) ⌝ }
     requires { ⌜ Window state ⌝ }
     requires { ⌜ Counted (now have) [] ⌝ }
@@ -160,7 +166,23 @@ fn standing(state: PackedState, setup: Setup, table: &[u8], prices: &[u32], have
     )
 }
 
-// Expands p, where last is the depth of the Swap that led to it or 0: offers its successors in order.
+// The same of a state that is drawn, from its cost and its f: only where their gas stops at the greatest u32 is it added up anew.
+fn drawn(p: Origin, f: u64, setup: Setup, table: &[u8], prices: &[u32], have: &mut [u8]) -> u32
+    requires { ⌜ Ready setup (now table) (now prices) ⌝ }
+    requires { ⌜ Window (p .state) ⌝ }
+    requires { ⌜ Estimated (questionOf setup (now table) (now prices)) p f ⌝ }
+    requires { ⌜ Counted (now have) [] ⌝ }
+    ensures { λ h. ⌜ Expanding (now (prices .entry)) (setup .dup) h (now (have .exit)) (wantIn (now (table .entry))) (p .state) (goalIn setup (now (table .entry))) (setup .cfg .«dup_max») ⌝ }
+{
+    let gas = f / 4294967296;
+    if gas == 4294967295 {
+        return standing(p.state, setup, table, prices, have);
+    }
+    heuristic::count_window(p.state, have);
+    (gas - p.cost / 4294967296) as u32
+}
+
+// Expands p, where f is its cost and estimate, and last is the depth of the Swap that led to it or 0: offers its successors in order.
 pub fn expand(
     nodes: &mut [u64],
     heads: &mut [u64],
@@ -171,6 +193,7 @@ pub fn expand(
     sizes: Sizes,
     held: Held,
     p: Origin,
+    f: u64,
     last: usize,
 ) -> Sizes
     requires { ⌜ Kept (now nodes) (now heads) (sizes .nodes) ⌝ }
@@ -179,6 +202,7 @@ pub fn expand(
     requires { ⌜ sizes .list * 4 + 200 ≤ length (now list) ⌝ }
     requires { ⌜ Ready setup (now table) (now prices) ⌝ }
     requires { ⌜ IsWindow (questionOf setup (now table) (now prices)) (whole (p .state)) ⌝ }
+    requires { ⌜ Estimated (questionOf setup (now table) (now prices)) p f ⌝ }
     ensures { λ r. ⌜ Now (allOffered (questionOf setup (now (table .entry)) (now (prices .entry))) held p
         (edgesFrom (questionOf setup (now (table .entry)) (now (prices .entry))) (keysOf (p .state)) last)
         (workOf (now (nodes .entry)) (sizes .nodes) (now (list .entry)) (sizes .list)))
@@ -188,7 +212,7 @@ pub fn expand(
     let mut codes = [0u16; 50];
     let n = steps_of(state, last, setup, table, prices, &mut codes);
     let mut have = [0u8; 64];
-    let h = standing(state, setup, table, prices, &mut have);
+    let h = drawn(p, f, setup, table, prices, &mut have);
     offers(
         nodes,
         heads,

@@ -10,10 +10,11 @@ use Rattle.costs.specs.declared.Cost.{Cost}
 use Rattle.costs.specs.Cost.{none as no-cost}
 use Rattle.costs.specs.Packed.{costOf}
 use Rattle.window.specs.declared.PackedState.{PackedState}
-use Rattle.window.specs.Laws.{key-lt}
+use Rattle.window.specs.Decode.{decode}
 use Rattle.window.specs.State.{whole}
 use Rattle.window.specs.Keys.{keysOf, Window}
 use Rattle.algebra.specs.GasBytes.{gas-bytes}
+use Rattle.astar.specs.Pairs.{sat, sat-exact}
 use Rattle.astar.specs.Search.{Entry, Work, Hand, Search, find, store, push, begin}
 use Rattle.astar.specs.Again.{Ends}
 use Rattle.astar.specs.Rows.{rows}
@@ -27,15 +28,17 @@ use Rattle.nodes.specs.declared.Found.the-variants.{At, Nothing}
 use Rattle.nodes.proofs.Lemmas.{chained-empty}
 use Rattle.successors.specs.Successors.{Question}
 use Rattle.heuristic.specs.Heuristic.{heuristicOf}
-use Rattle.heuristic.specs.Counts.{KeysFit}
+use Rattle.heuristic.specs.Steady.{estimate-fits}
 use Rattle.problem.specs.Problem.{problemOf}
+use Rattle.moves.specs.Moves.{Parent}
+use Rattle.moves.specs.Told.{cost-is}
 use Rattle.lists.specs.View.{SearchNode, nodeIs, nodesOf, queueOf, waits, blank, Kept, Piled, Sought, Stored, Pushed}
 use Rattle.lists.specs.declared.Node.{Node}
 use Rattle.offer.specs.View.{handOf, workOf, Now}
 use Rattle.offer.specs.declared.Sizes.{Sizes}
 use Rattle.offer.specs.declared.Held.{Held}
-use Rattle.search.specs.Table.{goalIn, questionOf, Ready}
-use Rattle.search.specs.View.{IsWindow}
+use Rattle.search.specs.Table.{wantIn, goalIn, questionOf, Ready}
+use Rattle.search.specs.View.{IsWindow, Awaits}
 use Rattle.search.specs.declared.Setup.{Setup}
 use Rattle.run.specs.View.{problemFor, allowance, searchOf, Roomy, Ran}
 use Rattle.run.specs.declared.Ask.{Ask}
@@ -62,19 +65,9 @@ piled-none xs = record { heap = λ j p l. absurd (omega arith); room = omega ari
 
 -- ---- the estimate of the start
 
-goal-part : (s : Setup) (t : List ℕ) → take (128 + s .goal - 128) (drop 128 t) ≡ goalIn s t
-goal-part s t = let e : 128 + s .goal - 128 ≡ s .goal = omega arith in ap (λ (k : ℕ). take k (drop 128 t)) e
-
-module _ (s : Setup) (t prices : List ℕ) (R : Ready s t prices) where
-  pub goal-keys : KeysFit (take (128 + s .goal - 128) (drop 128 t))
-  goal-keys = rw (goal-part s t) (λ i l. key-lt 6 (goalIn s t) i (R .bounds .keys))
-
-  pub goal-few : length (take (128 + s .goal - 128) (drop 128 t)) ≤ 21
-  goal-few = rw (goal-part s t) (omega (arith, R .bounds .goal))
-
-  pub estimated : (state : PackedState) (h : Cost) (r : ℕ) → h ≡ heuristicOf prices (s .cfg .«dup_max») (take (128 + s .goal - 128) (drop 128 t)) (keysOf state) → costOf r ≡ h → costOf r ≡ estimateIn (questionOf s t prices) (whole state)
-  unfolding keysOf
-  estimated state h r e f = f ∙ e ∙ ap (λ (g : List ℕ). heuristicOf prices (s .cfg .«dup_max») g (keysOf state)) (goal-part s t)
+pub estimated : (s : Setup) (t prices : List ℕ) (state : PackedState) (gas : ℕ) (have : List ℕ) (r : ℕ) → Parent prices (s .dup) gas have (wantIn t) state (goalIn s t) (s .cfg .«dup_max») → costOf r ≡ record { gas = gas; bytes = 0 } → costOf r ≡ estimateIn (questionOf s t prices) (whole state)
+unfolding keysOf
+estimated s t prices state gas have r p f = f ∙ cost-is prices (s .dup) (s .cfg .«dup_max») (goalIn s t) (keysOf state) gas (p .least) (p .standing .sum)
 
 -- ---- begin
 
@@ -124,11 +117,20 @@ begun q a xs os ys gs ps m f n me fe S P =
 pub roomy-still : (l : Limits) (xs os ys ps : List ℕ) → Roomy l xs os → length ys ≡ length xs → length ps ≡ length os → Roomy l ys ps
 roomy-still l xs os ys ps R e f = record { plain-nodes = omega (arith, R); held-nodes = omega (arith, R); plain-list = omega (arith, R); held-list = omega (arith, R) }
 
+-- the estimate of the start is its f: its g is zero
+from-nothing : (q : Question) (v : ℕ) → gas-bytes ._⊞_ (gas-bytes .𝟘) (estimateIn q v) ≡ estimateIn q v
+unfolding heuristicOf
+from-nothing q v =
+    let l : estimateIn q v .gas ≤ 4294967295 = estimate-fits (q .prices) (q .rules .dupMax) (q .goal) (decode 6 21 v) in
+    let e : sat 0 (estimateIn q v .gas) ≡ estimateIn q v .gas = omega (arith, sat-exact 0 (estimateIn q v .gas) (omega (arith, l))) in
+    let f : sat 0 0 ≡ 0 = sat-exact 0 0 (omega arith) in
+    rw (e, f)
+
 -- the start waits, and is a window
-pub start-waits : (q : Question) (a : Ask) (xs hs os : List ℕ) (s : Sizes) → Begun q a xs hs os s → IsWindow q (whole (a .start)) → AllValid gas-bytes (IsWindow q) (queueOf os (s .list))
+pub start-waits : (q : Question) (a : Ask) (xs hs os : List ℕ) (s : Sizes) → Begun q a xs hs os s → IsWindow q (whole (a .start)) → AllValid gas-bytes (Awaits q) (queueOf os (s .list))
 start-waits q a xs hs os s B W =
     let e : queueOf os (s .list) ≡ firstEntry q a ∷ [] = ap (λ (w : Work Cost ℕ). w .queue) (B .work ∙ first-work q a (costOf 0) false) in
-    subst (AllValid gas-bytes (IsWindow q)) (sym e) (W, tt)
+    subst (AllValid gas-bytes (Awaits q)) (sym e) (record { window = W; summed = sym (from-nothing q (whole (a .start))) }, tt)
 
 pub went : (q : Question) (a : Ask) (l : Limits) (bound : ℕ) (have : Bool) (xs hs os : List ℕ) (s : Sizes) (ys gs : List ℕ) (r : Left) → Begun q a xs hs os s → Ran q a l (searchOf xs os s (record { bound = bound; have = have; found = false; mark = 0 }) 0) ys gs r → Ran q a l (firstOf q a (costOf bound) have) ys gs r
 went q a l bound have xs hs os s ys gs r B R = subst (λ (x : Search Cost ℕ). Ran q a l x ys gs r) (first-search q a (costOf bound) have (workOf xs (s .nodes) os (s .list)) (B .work)) R

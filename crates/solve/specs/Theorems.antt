@@ -86,11 +86,11 @@ module _ (q : Question) (b : Bounds q) (f : pricesFault (q .prices) ≡ false) (
     lists-within = reach-within gas-bytes Q 50 30000 B A R (begin-within gas-bytes Q 50 30000 B A bound have (omega arith))
 
     -- every state that waits is a window of the question
-    pub waits-windows : AllValid gas-bytes (IsWindow q) (s .work .queue)
-    waits-windows = reach-valid gas-bytes (IsWindow q) Q led A R (begin-valid gas-bytes (IsWindow q) Q led bound have (record { keys = start; packed = refl; below = S .keys; fits = S .fits }))
+    pub waits-windows : AllValid gas-bytes (λ e. IsWindow q (e .state)) (s .work .queue)
+    waits-windows = reach-valid gas-bytes (λ e. IsWindow q (e .state)) Q led A R (begin-valid gas-bytes (λ e. IsWindow q (e .state)) Q led bound have (record { keys = start; packed = refl; below = S .keys; fits = S .fits }))
       where
-        led : (v : ℕ) (p : Option ℕ) (x : Succ Cost ℕ) → IsWindow q v → List·Memᴰ x (Q .after v p) → IsWindow q (x .to)
-        led v p x W m =
+        led : (e : Entry Cost) (g : Cost) (p : Option ℕ) (x : Succ Cost ℕ) → IsWindow q (e .state) → List·Memᴰ x (Q .after (e .state) p) → IsWindow q (x .to)
+        led e g p x W m =
             let r : Led q b start (W .keys) x = successor-led q b start (W .keys) (W .below) (W .fits) p x (subst (λ (u : ℕ). List·Memᴰ x (Q .after u p)) (W .packed) m) in
             record { keys = r .window; packed = r .packed; below = r .keys; fits = r .fits }
 

@@ -51,10 +51,9 @@ fn estimate(state: PackedState, table: &[u8], prices: &[u32], setup: Setup) -> u
     requires { ⌜ Window state ⌝ }
     ensures { λ r. ⌜ costOf r ≡ estimateIn (questionOf setup (now (table .entry)) (now (prices .entry))) (whole state) ⌝ }
 {
-    let goal = setup.goal;
-    let mid = 128 + goal;
-    let cfg = setup.cfg;
-    let h = heuristic::heuristic(state, &table[128..mid], cfg.dup_max, prices);
+    let mut have = [0u8; 64];
+    let gas = search::standing(state, setup, table, prices, &mut have);
+    let h = Cost { gas, bytes: 0 };
     h.packed()
 }
 

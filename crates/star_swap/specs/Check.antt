@@ -2,8 +2,9 @@
 use mathlib.Core.Path.{_≡_, refl, sym, ap, _∙_}
 use mathlib.Core.Bool.{Bool, true, false, not, _&&_, _||_}
 use mathlib.Core.List.{List}
-use Prim.Native.Nat.{ℕ, zero, suc, _+_, _-_, _≤_, _<_}
+use Prim.Native.Nat.{ℕ, suc, _+_, _≤_, _<_}
 use native.Mathlib.Omega.{arith}
+use native.Mathlib.Numerals.{add-one}
 use native.Mathlib.Decide.{ℕ-discrete}
 use borrow.Author.Tests.{eq-eqb, ne-eqb, ltb-false, le-ltb}
 use lib.Dec.{eqb, ltb}
@@ -14,7 +15,7 @@ use Rattle.costs.specs.Laws.{drop-turn, countOf-turn, passed, or-left}
 use Rattle.costs.specs.Table.{anyOver, countOf}
 use Rattle.star_swap.specs.Star.{at}
 use Rattle.star_swap.specs.Tests.{or-right, over-none}
-use Rattle.star_swap.specs.Refusal.{sameCounts, sameKeys, unroutable, builderRefusal}
+use Rattle.star_swap.specs.Refusal.{sameCounts, sameKeys, unroutable, builderRefusal, swapRefusal}
 
 -- a window: at most 21 keys, each below 64
 pub record Window (w : List ℕ) : Type 0 where
@@ -95,29 +96,30 @@ module _ (w : List ℕ) where
           left = λ k q. omega (arith, v .left k q, other k (λ e. omega arith));
         }
 
--- the counts from k on are equal, and those below k decide
-pub record Equalling (a b : List ℕ) (k : ℕ) : Type 0 where
+-- the keys below k are looked at, and whether the counts of some differ
+pub record Equalling (a b : List ℕ) (differ : Bool) (k : ℕ) : Type 0 where
   pub low : k ≤ 64
-  pub left : sameCounts 64 a b ≡ sameCounts k a b
+  pub is : not differ ≡ sameCounts k a b
+
+pub equal-first : (a b : List ℕ) → Equalling a b false 0
+equal-first a b = record { low = omega arith; is = refl }
+
+pub equal-last : (a b : List ℕ) (differ : Bool) (k : ℕ) → Equalling a b differ k → 64 ≤ k → not differ ≡ sameCounts 64 a b
+equal-last a b differ k v h = let e : k ≡ 64 = omega (arith, v .low) in v .is ∙ ap (λ (n : ℕ). sameCounts n a b) e
 
 module _ (a b x y : List ℕ) (c : Counts a x) (d : Counts b y) where
-  same-turn : (k : ℕ) → 0 < k → k ≤ 64 → sameCounts k a b ≡ (eqb (at x (k - 1)) (at y (k - 1)) && sameCounts (k - 1) a b)
-  same-turn zero h l = absurd (omega arith)
-  same-turn (suc k) h l =
-      let e : suc k - 1 ≡ k = omega arith in
-      rw (e, c .each k (omega arith), d .each k (omega arith))
-
-  pub equal-differ : (k : ℕ) → Equalling a b k → 0 < k → (at x (k - 1) ≡ at y (k - 1) → ⊥) → false ≡ sameCounts 64 a b
-  equal-differ k v h ne = sym (v .left ∙ same-turn k h (v .low) ∙ rw (ne-eqb _ _ ne))
-
-  pub equal-next : (k : ℕ) → Equalling a b k → 0 < k → at x (k - 1) ≡ at y (k - 1) → Equalling a b (k - 1)
-  equal-next k v h e = record { low = omega (arith, v .low); left = v .left ∙ same-turn k h (v .low) ∙ rw (eq-eqb _ _ e) }
-
-pub equal-first : (a b : List ℕ) → Equalling a b 64
-equal-first a b = record { low = omega arith; left = refl }
-
-pub equal-last : (a b : List ℕ) (k : ℕ) → Equalling a b k → k ≤ 0 → true ≡ sameCounts 64 a b
-equal-last a b k v h = let e : k ≡ 0 = omega arith in sym (v .left ∙ rw e)
+  pub equal-next : (differ new : Bool) (k : ℕ) → Equalling a b differ k → k < 64 → new ≡ (differ || not (eqb (at x k) (at y k))) → Equalling a b new (k + 1)
+  equal-next differ new k v l e =
+      record {
+        low = omega arith;
+        is = rw (add-one k, e, c .each k l, d .each k l, ← v .is) (both differ (eqb (countOf k a) (countOf k b)));
+      }
+    where
+      both : (p q : Bool) → not (p || not q) ≡ (q && not p)
+      both true true = refl
+      both true false = refl
+      both false true = refl
+      both false false = refl
 
 -- the keys from place i on decide
 abbrev pub Placing : List ℕ → List ℕ → ℕ → ℕ → Type 0
@@ -188,6 +190,29 @@ module _ (sm : ℕ) (start goal : List ℕ) (places higher : ℕ) where
       go false false true d h = absurd (omega arith)
       go false false false true h = absurd (omega arith)
       go false false false false h = h
+
+-- star-swap's table by the number that its shared rows give alone
+module _ (sm : ℕ) (start goal : List ℕ) (places n : ℕ) (e : n ≡ builderRefusal sm start goal places 0) where
+  -- no shared row applies
+  pub shared-none : n ≡ 0 → Taken sm start goal places
+  shared-none z = taken sm start goal places 0 (sym e ∙ z) .0
+
+  -- the number of a shared row stands
+  pub shared-row : (n ≡ 0 → ⊥) → n ≡ swapRefusal sm start goal places
+  unfolding builderRefusal
+  shared-row h = go (ltb 17 sm) (anyOver 63 start || anyOver 63 goal) (ltb 21 (length start) || ltb 21 (length goal)) (ltb places 128) (9 if unroutable sm start goal otherwise 0) e
+    where
+      go : (a b c d : Bool) (higher : ℕ) → n ≡ (1 if a otherwise 5 if b otherwise 6 if c otherwise 7 if d otherwise 0) →
+          n ≡ (1 if a otherwise 5 if b otherwise 6 if c otherwise 7 if d otherwise higher)
+      go true b c d higher f = f
+      go false true c d higher f = f
+      go false false true d higher f = f
+      go false false false true higher f = f
+      go false false false false higher f = absurd (h f)
+
+  -- else the row of 9 decides
+  pub last-row : (b : Bool) (r : ℕ) → n ≡ 0 → b ≡ unroutable sm start goal → r ≡ (9 if b otherwise 0) → r ≡ swapRefusal sm start goal places
+  last-row b r z f g = g ∙ ap (λ (x : Bool). 9 if x otherwise 0) f ∙ sym (taken-refusal sm start goal places (9 if unroutable sm start goal otherwise 0) (shared-none z))
 
 pub start-window : (sm : ℕ) (start goal : List ℕ) (places : ℕ) → Taken sm start goal places → Window start
 start-window sm start goal places t = record { short = t .start-short; keys = λ i l. omega (arith, over-none 63 start (t .start-keys) i l) }

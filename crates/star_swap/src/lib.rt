@@ -146,10 +146,11 @@ pub fn star(cur: &[u8], goal: &[u8], start: usize, steps: &mut [u16]) -> usize
 }
 
 // How often each key below 64 stands in the list.
-pub fn counts(w: &[u8]) -> [usize; 64]
+pub fn counts(w: &[u8]) -> [u8; 64]
+    requires { ⌜ length (now w) ≤ 255 ⌝ }
     ensures { λ r. ⌜ Counts (now (w .entry)) r ⌝ }
 {
-    let mut a: [usize; 64] = [0; 64];
+    let mut a: [u8; 64] = [0; 64];
     let mut i: usize = 0;
     while i < w.len() {
         let k = w[i] as usize;
@@ -163,18 +164,18 @@ pub fn counts(w: &[u8]) -> [usize; 64]
 
 // Whether two windows hold each key equally often.
 fn same_counts(a: &[u8], b: &[u8]) -> bool
+    requires { ⌜ (length (now a) ≤ 255) × (length (now b) ≤ 255) ⌝ }
     ensures { λ r. ⌜ r ≡ sameCounts 64 (now (a .entry)) (now (b .entry)) ⌝ }
 {
     let x = counts(a);
     let y = counts(b);
-    let mut k: usize = 64;
-    while k > 0 {
-        k -= 1;
-        if x[k] != y[k] {
-            return false;
-        }
+    let mut differ = false;
+    let mut k: usize = 0;
+    while k < 64 {
+        differ = costs::either(differ, x[k] != y[k]);
+        k += 1;
     }
-    true
+    !differ
 }
 
 // Whether two windows of one length hold the same keys from a place on.
@@ -194,6 +195,7 @@ fn same_from(a: &[u8], b: &[u8], from: usize) -> bool
 
 // Refusal 9: no swaps below `swap_max` turn the start into the goal.
 pub fn not_routable(start: &[u8], goal: &[u8], swap_max: usize) -> bool
+    requires { ⌜ (length (now start) ≤ 255) × (length (now goal) ≤ 255) ⌝ }
     ensures { λ r. ⌜ r ≡ unroutable «swap_max» (now (start .entry)) (now (goal .entry)) ⌝ }
 {
     if start.len() != goal.len() {
@@ -222,12 +224,15 @@ pub fn builder_refusal(
     costs::row(1, 17 < swap_max, key)
 }
 
-// The refusals, the lowest number first.
+// The refusals, the lowest number first. Row 9 counts keys in bytes, so the lengths are looked at before it.
 fn swap_refusal(start: &[u8], goal: &[u8], swap_max: usize, places: usize) -> u32
     ensures { λ r. ⌜ r ≡ swapRefusal «swap_max» (now (start .entry)) (now (goal .entry)) places ⌝ }
 {
-    let route = costs::row(9, not_routable(start, goal, swap_max), 0);
-    builder_refusal(start, goal, swap_max, places, route)
+    let n = builder_refusal(start, goal, swap_max, places, 0);
+    if n != 0 {
+        return n;
+    }
+    costs::row(9, not_routable(start, goal, swap_max), 0)
 }
 
 // What star-swap and delete-tail answer: the number of a refusal or 0, and the number of steps written.

@@ -1,9 +1,9 @@
 -- What is left to fill decides.
 use Prim.Native.Nat.{_-_}
-use mathlib.Core.Path.{_≡_, refl, sym, _∙_}
+use mathlib.Core.Path.{sym, _∙_}
 use Rattle.replay.specs.Machine.{ruled}
 use Rattle.star_swap.specs.Check.{Counts}
-use Rattle.builders.specs.Area.{workOf, reachOf}
+use Rattle.builders.specs.Area.{workOf}
 use Rattle.builders.specs.FillCode.{Filling, filling-first, filling-next, filling-none, filling-last, filling-passed}
 use borrow.Author.Needs.{needs}
 use Rattle.builders.proofs.fill.Statement.{statement}
@@ -22,16 +22,16 @@ next-wanted-requires : tie.Need-next-wanted-requires Inv-loop μ-loop
 next-wanted-requires c κs = search needs
 
 loop-holds : tie.Need-loop-holds Inv-loop μ-loop
-loop-holds c = (filling-passed _ _ _ _ _ (c .before .before .counts .ensures) _ _ (filling-first _ _ _ (c .before .before .before .before .before .before .pre .0)) (c .next-wanted .ensures), c .before .before .counts .ensures)
+loop-holds c = (filling-passed _ _ _ _ _ _ (filling-first _ _ _ (c .before .before .before .before .before .pre .0)) (c .next-wanted .ensures), c .before .counts .ensures)
 
 cast-want : tie.Need-cast-want Inv-loop μ-loop
 cast-want c = search needs
 
-mul-want : tie.Need-mul-want Inv-loop μ-loop
-mul-want c = search needs
-
 array-read-want : tie.Need-array-read-want Inv-loop μ-loop
 array-read-want c = search needs
+
+cast-want-2 : tie.Need-cast-want-2 Inv-loop μ-loop
+cast-want-2 c = search needs
 
 missing-requires : tie.Need-missing-requires Inv-loop μ-loop
 missing-requires c κs = search needs
@@ -49,19 +49,25 @@ loop-less : tie.Need-loop-less Inv-loop μ-loop
 loop-less c = search needs
 
 loop-again : tie.Need-loop-again Inv-loop μ-loop
-loop-again c = (filling-passed _ _ _ _ _ (c .before .before .before .before .before .before .before .before .before .before .loop .inv .1) _ _ (filling-next _ _ _ _ _ (c .before .before .before .before .before .before .before .before .before .before .loop .inv .0) (c .before .before .before .before .before .before .before .before .before .loop-test .taken) _ (c .before .before .before .before .before .before .before .before .before .before .loop .inv .1) _ (c .before .before .before .before .before .before .before .before .missing .ensures) _ (c .before .before .before .before .before .before .add-times .ensures) (c .before .before .if1 .taken)) (c .next-wanted2 .ensures), c .before .before .before .before .before .before .before .before .before .before .loop .inv .1)
+loop-again c =
+    let v = c .before .before .before .before .before .before .before .before .before .loop .inv in
+    let l = c .before .before .before .before .before .before .before .before .loop-test .taken in
+    (filling-passed _ _ _ _ _ _ (filling-next _ _ _ _ _ (v .0) l _ (rw (v .1 .each _ l) at (c .before .before .before .before .before .before .before .missing .ensures)) _ (c .before .before .before .before .before .add-times .ensures) (c .before .if1 .taken)) (c .next-wanted2 .ensures), v .1)
 
 same-length : tie.Need-same-length Inv-loop μ-loop
-same-length c = c .before .before .before .before .add-times .ensures .room .full ∙ sym (c .before .before .before .before .before .before .before .before .before .before .before .before .before .before .before .pre .0 .full)
+same-length c = c .before .before .before .before .add-times .ensures .room .full ∙ sym (c .before .before .before .before .before .before .before .before .before .before .before .before .before .before .pre .0 .full)
 
 returns : tie.Need-returns Inv-loop μ-loop
-returns c = filling-none _ _ _ _ _ (c .before .before .before .before .before .before .before .before .loop .inv .0) (c .before .before .before .before .before .before .before .loop-test .taken) _ (c .before .before .before .before .before .before .before .before .loop .inv .1) _ (c .before .before .before .before .before .before .missing .ensures) _ (c .before .before .before .before .add-times .ensures) (c .if1 .left)
+returns c =
+    let v = c .before .before .before .before .before .before .before .before .loop .inv in
+    let l = c .before .before .before .before .before .before .before .loop-test .taken in
+    filling-none _ _ _ _ _ (v .0) l _ (rw (v .1 .each _ l) at (c .before .before .before .before .before .before .missing .ensures)) _ (c .before .before .before .before .add-times .ensures) (c .if1 .left)
 
 same-length-2 : tie.Need-same-length-2 Inv-loop μ-loop
-same-length-2 c = c .before .loop .inv .0 .room .full ∙ sym (c .before .before .before .before .before .before .before .before .pre .0 .full)
+same-length-2 c = c .before .loop .inv .0 .room .full ∙ sym (c .before .before .before .before .before .before .before .pre .0 .full)
 
 returns-2 : tie.Need-returns-2 Inv-loop μ-loop
 returns-2 c = search filling-last
 
 pub fill-spec : {M : Type 1} → statement M
-fill-spec = tie.close (tie.spec Inv-loop μ-loop counts-requires next-wanted-requires loop-holds cast-want mul-want array-read-want missing-requires add-times-requires add-next-wanted next-wanted-requires-2 loop-less loop-again same-length returns same-length-2 returns-2)
+fill-spec = tie.close (tie.spec Inv-loop μ-loop counts-requires next-wanted-requires loop-holds cast-want array-read-want cast-want-2 missing-requires add-times-requires add-next-wanted next-wanted-requires-2 loop-less loop-again same-length returns same-length-2 returns-2)

@@ -5,7 +5,7 @@ use Rattle.builders.proofs.finish.Statement.{statement}
 use Rattle.builders.proofs.finish.Tie as tie
 
 cannot-route-requires : tie.Need-cannot-route-requires
-cannot-route-requires c κs = search finish-can
+cannot-route-requires c κs = search needs
 
 returns : tie.Need-returns
 returns c = search finish-no

@@ -29,12 +29,6 @@ cast-k c = search needs
 element-copy-out-if1 : tie.Need-element-copy-out-if1 Inv-loop μ-loop
 element-copy-out-if1 c = key-low (keysOf (c .before .before .before .before .args .stack)) _ _ (c .before .before .before .before .pre .1) (omega (arith, length-keys (c .before .before .before .before .args .stack), c .before .loop-test .taken)) (c .get .ensures)
 
-mul-if1 : tie.Need-mul-if1 Inv-loop μ-loop
-mul-if1 c = search needs
-
-mul-if1-2 : tie.Need-mul-if1-2 Inv-loop μ-loop
-mul-if1-2 c = search needs
-
 array-read-if1 : tie.Need-array-read-if1 Inv-loop μ-loop
 array-read-if1 c = key-low (keysOf (c .before .before .before .before .before .args .stack)) _ _ (c .before .before .before .before .before .pre .1) (omega (arith, length-keys (c .before .before .before .before .before .args .stack), c .before .before .loop-test .taken)) (c .before .get .ensures)
 
@@ -63,9 +57,7 @@ surplus-at-spec =
     loop-holds
     get-requires
     cast-k
-    mul-if1
     element-copy-out-if1
-    mul-if1-2
     array-read-if1
     returns
     add-i

@@ -9,20 +9,26 @@ use Rattle.search.proofs.expand.Tie as tie
 use Rattle.search.proofs.expand.Reads as reads
 use Rattle.search.proofs.expand.Lts as lts
 use Rattle.search.proofs.offers.Reads as offers-reads
-use Rattle.search.proofs.standing.Reads as standing-reads
+use Rattle.search.proofs.drawn.Reads as drawn-reads
 use Rattle.search.proofs.steps_of.Reads as steps-of-reads
 
 slice-aggregate-steps-of : tie.Need-slice-aggregate-steps-of
 slice-aggregate-steps-of c = search needs
 
 steps-of-requires : tie.Need-steps-of-requires
-steps-of-requires c κs = ((c .before .before .before .before .before .before .before .pre .1 .1 .1 .1 .0), ((window-held _ ((c .before .before .before .before .before .before .before .pre .1 .1 .1 .1 .0) .bounds) _ (c .before .before .before .before .before .before .before .pre .1 .1 .1 .1 .1)), omega arith))
+steps-of-requires c κs =
+    let s = c .before .before .before .before .before .before .before in
+    let r = s .pre .1 .1 .1 .1 .0 in
+    (r, (window-held _ (r .bounds) _ (s .pre .1 .1 .1 .1 .1 .0), omega arith))
 
-slice-aggregate-standing : tie.Need-slice-aggregate-standing
-slice-aggregate-standing c = search needs
+slice-aggregate-drawn : tie.Need-slice-aggregate-drawn
+slice-aggregate-drawn c = search needs
 
-standing-requires : tie.Need-standing-requires
-standing-requires c κs = ((c .before .before .before .before .before .before .before .before .before .before .pre .1 .1 .1 .1 .0), ((window-held _ ((c .before .before .before .before .before .before .before .before .before .before .pre .1 .1 .1 .1 .0) .bounds) _ (c .before .before .before .before .before .before .before .before .before .before .pre .1 .1 .1 .1 .1)), count-none))
+drawn-requires : tie.Need-drawn-requires
+drawn-requires c κs =
+    let s = c .before .before .before .before .before .before .before .before .before .before in
+    let r = s .pre .1 .1 .1 .1 .0 in
+    (r, (window-held _ (r .bounds) _ (s .pre .1 .1 .1 .1 .1 .0), (s .pre .1 .1 .1 .1 .1 .1, count-none)))
 
 slice-aggregate-offers : tie.Need-slice-aggregate-offers
 slice-aggregate-offers c = search needs
@@ -31,7 +37,12 @@ slice-aggregate-offers-2 : tie.Need-slice-aggregate-offers-2
 slice-aggregate-offers-2 c = search needs
 
 offers-requires : tie.Need-offers-requires
-offers-requires c κs = (c .before .before .before .before .before .before .before .before .before .before .before .before .before .before .before .before .before .pre .0, (c .before .before .before .before .before .before .before .before .before .before .before .before .before .before .before .before .before .pre .1 .0, (c .before .before .before .before .before .before .before .before .before .before .before .before .before .before .before .before .before .pre .1 .1 .0, (c .before .before .before .before .before .before .before .before .before .before .before .before .before .before .before .before .before .pre .1 .1 .1 .0, ((c .before .before .before .before .before .before .before .before .before .steps-of .ensures) .few, (codes-fit _ _ _ _ _ _ (c .before .before .before .before .before .before .before .before .before .steps-of .ensures) refl, (table-long _ _ _ (c .before .before .before .before .before .before .before .before .before .before .before .before .before .before .before .before .before .pre .1 .1 .1 .1 .0), (all-steps-coded _ ((c .before .before .before .before .before .before .before .before .before .before .before .before .before .before .before .before .before .pre .1 .1 .1 .1 .0) .bounds) _ (window-held _ ((c .before .before .before .before .before .before .before .before .before .before .before .before .before .before .before .before .before .pre .1 .1 .1 .1 .0) .bounds) _ (c .before .before .before .before .before .before .before .before .before .before .before .before .before .before .before .before .before .pre .1 .1 .1 .1 .1)) _ _ _ _ (c .before .before .before .before .before .before .before .before .before .steps-of .ensures), c .before .before .before .before .before .before .standing .ensures))))))))
+offers-requires c κs =
+    let s = c .before .before .before .before .before .before .before .before .before .before .before .before .before .before .before .before .before in
+    let r = s .pre .1 .1 .1 .1 .0 in
+    let told = c .before .before .before .before .before .before .before .before .before .steps-of .ensures in
+    let coded = all-steps-coded _ (r .bounds) _ (window-held _ (r .bounds) _ (s .pre .1 .1 .1 .1 .1 .0)) _ _ _ _ told in
+    (s .pre .0, (s .pre .1 .0, (s .pre .1 .1 .0, (s .pre .1 .1 .1 .0, (told .few, (codes-fit _ _ _ _ _ _ told refl, (table-long _ _ _ r, (coded, c .before .before .before .before .before .before .drawn .ensures))))))))
 
 same-length : tie.Need-same-length
 same-length c = search needs
@@ -43,7 +54,12 @@ same-length-3 : tie.Need-same-length-3
 same-length-3 c = search needs
 
 returns : tie.Need-returns
-returns c = expanded-all (questionOf (c .before .before .before .before .before .before .before .before .before .before .before .before .before .before .before .before .before .before .before .before .before .before .before .before .args .setup) (c .before .before .before .before .before .before .before .before .before .before .before .before .before .before .before .before .before .before .before .before .before .before .before .before .args .table .now) (c .before .before .before .before .before .before .before .before .before .before .before .before .before .before .before .before .before .before .before .before .before .before .before .before .args .prices .now)) ((c .before .before .before .before .before .before .before .before .before .before .before .before .before .before .before .before .before .before .before .before .before .before .before .before .pre .1 .1 .1 .1 .0) .bounds) (c .before .before .before .before .before .before .before .before .before .before .before .before .before .before .before .before .before .before .before .before .before .before .before .before .args .held) (c .before .before .before .before .before .before .before .before .before .before .before .before .before .before .before .before .before .before .before .before .before .before .before .before .args .p) (c .before .before .before .before .before .before .before .before .before .before .before .before .before .before .before .before .before .before .before .before .before .before .before .before .pre .1 .1 .1 .1 .1) (c .before .before .before .before .before .before .before .before .before .before .before .before .before .before .before .before .before .before .before .before .before .before .before .before .args .last) _ _ _ (c .before .before .before .before .before .before .before .before .before .before .before .before .before .before .before .before .steps-of .ensures) _ _ _ _ _ _ _ (c .before .before .before .before .before .before .offers .ensures)
+returns c =
+    let s = c .before .before .before .before .before .before .before .before .before .before .before .before .before .before .before .before .before .before .before .before .before .before .before .before in
+    let a = s .args in
+    expanded-all (questionOf (a .setup) (a .table .now) (a .prices .now)) (s .pre .1 .1 .1 .1 .0 .bounds) (a .held) (a .p) (s .pre .1 .1 .1 .1 .1 .0) (a .last) _ _ _
+    (c .before .before .before .before .before .before .before .before .before .before .before .before .before .before .before .before .steps-of .ensures) _ _ _ _ _ _ _
+    (c .before .before .before .before .before .before .offers .ensures)
 
 pub expand-spec : {M : Type 1} → statement M
 expand-spec =
@@ -51,8 +67,8 @@ expand-spec =
     (tie.spec
     slice-aggregate-steps-of
     steps-of-requires
-    slice-aggregate-standing
-    standing-requires
+    slice-aggregate-drawn
+    drawn-requires
     slice-aggregate-offers
     slice-aggregate-offers-2
     offers-requires

@@ -25,9 +25,6 @@ cast-k c = omega (arith, c .shared-slice-known .given (c .before .before .loop .
 add-i : tie.Need-add-i Inv-loop μ-loop
 add-i c = search needs
 
-mul-a : tie.Need-mul-a Inv-loop μ-loop
-mul-a c = search needs
-
 array-read-a : tie.Need-array-read-a Inv-loop μ-loop
 array-read-a c = search needs
 
@@ -62,7 +59,6 @@ counts-spec =
     shared-slice-read-k
     cast-k
     add-i
-    mul-a
     array-read-a
     add-a
     array-write-a
