@@ -382,7 +382,7 @@ fn count_key(stack: Stack, key: u8) -> usize
     let n = stack.len;
     let mut cur: [u8; 21] = [0; 21];
     replay::write(stack, &mut cur);
-    costs::count_of(&cur[0..n], key)
+    costs::count_of(&cur[0..n], key) as usize
 }
 
 // How many of a key are missing.

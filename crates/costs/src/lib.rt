@@ -168,23 +168,8 @@ fn any_price_over(list: &[u32], limit: u32) -> bool
     0 < n
 }
 
-// How many bytes of the list are k.
-pub fn count_of(list: &[u8], k: u8) -> usize
-    ensures { λ r. ⌜ r ≡ countOf k (now (list .entry)) ⌝ }
-{
-    let mut n: usize = 0;
-    let mut i = 0;
-    while i < list.len() {
-        if list[i] == k {
-            n += 1;
-        }
-        i += 1;
-    }
-    n
-}
-
-// The same of a list of at most 255 bytes.
-fn count_short(list: &[u8], k: u8) -> u8
+// How many bytes of a list of at most 255 are k.
+pub fn count_of(list: &[u8], k: u8) -> u8
     requires { ⌜ length (now list) ≤ 255 ⌝ }
     ensures { λ r. ⌜ r ≡ countOf k (now (list .entry)) ⌝ }
 {
@@ -209,7 +194,7 @@ pub fn kinds_fault(kinds: &[u8]) -> bool
     if any_over(kinds, 2) {
         return true;
     }
-    1 < count_short(kinds, 2)
+    1 < count_of(kinds, 2)
 }
 
 // Refusal 4, of the prices.

@@ -39,12 +39,12 @@ unfoldable pub answered : Asked → Answered Cost ℕ
 answered a =
     planned gas-bytes (problemOf (questionOf a) (a .start)) (listed (a .prices)) 50 (before a .bound) (planHeld (before a)) (a .allowance)
 
--- the nine fields, without a plan and with one (document 01, "The planner's answer")
-abbrev pub fieldsOf : Option (Found Cost ℕ) → (ending expansions : ℕ) → Answer
-fieldsOf none ending expansions =
+-- zeros but for these
+abbrev pub bareOf : (refusal found ending expansions : ℕ) → Answer
+bareOf refusal found ending expansions =
     record {
-      refusal = 0;
-      found = 0;
+      refusal = refusal;
+      found = found;
       «step_count» = 0;
       «plan_gas» = 0;
       «plan_bytes» = 0;
@@ -54,6 +54,10 @@ fieldsOf none ending expansions =
       ending = ending;
       expansions = expansions;
     }
+
+-- the nine fields, without a plan and with one (document 01, "The planner's answer")
+abbrev pub fieldsOf : Option (Found Cost ℕ) → (ending expansions : ℕ) → Answer
+fieldsOf none ending expansions = bareOf 0 0 ending expansions
 fieldsOf (some p) ending expansions =
     record {
       refusal = 0;
@@ -70,19 +74,7 @@ fieldsOf (some p) ending expansions =
 
 -- a refusal: zeros beside the number
 abbrev pub refused : ℕ → Answer
-refused n =
-    record {
-      refusal = n;
-      found = 0;
-      «step_count» = 0;
-      «plan_gas» = 0;
-      «plan_bytes» = 0;
-      «ceiling_gas» = 0;
-      «ceiling_bytes» = 0;
-      origin = 0;
-      ending = 0;
-      expansions = 0;
-    }
+refused n = bareOf n 0 0 0
 
 -- the step list: its first entries are the plan and the rest is untouched
 abbrev pub stepsWith : Option (Found Cost ℕ) → List ℕ → List ℕ

@@ -15,7 +15,7 @@ ghost use Rattle.costs.specs.Table.{anyOver, kindsFault, pricesFault};
 ghost use Rattle.replay.specs.Machine.{rules, ruled};
 ghost use Rattle.window.specs.Pack.{Keys, pack};
 ghost use Rattle.incumbent.specs.Hand.{heldOf};
-ghost use Rattle.planner.specs.Planned.{answered, listed, planHeld, plannedFor, WorkKept, fieldsOf, refused, stepsWith};
+ghost use Rattle.planner.specs.Planned.{answered, listed, planHeld, plannedFor, WorkKept, bareOf, fieldsOf, refused, stepsWith};
 ghost use Rattle.algebra.specs.GasBytes.{«gas-bytes»};
 ghost use Rattle.astar.specs.Planner.{searched};
 ghost use Rattle.successors.specs.Whole.{asked as sought};
@@ -159,31 +159,13 @@ fn refusal(
 }
 
 impl Answer {
-    // A refusal: zeros beside the number.
-    fn refused(n: u32) -> Answer
-        ensures { λ r. ⌜ r ≡ refused n ⌝ }
+    // Zeros but for these.
+    fn bare(refusal: u32, found: u32, ending: u32, expansions: usize) -> Answer
+        ensures { λ r. ⌜ r ≡ bareOf refusal found ending expansions ⌝ }
     {
         Answer {
-            refusal: n,
-            found: 0,
-            step_count: 0,
-            plan_gas: 0,
-            plan_bytes: 0,
-            ceiling_gas: 0,
-            ceiling_bytes: 0,
-            origin: 0,
-            ending: 0,
-            expansions: 0,
-        }
-    }
-
-    // No plan.
-    fn nothing(ending: u32, expansions: usize) -> Answer
-        ensures { λ r. ⌜ r ≡ fieldsOf none ending expansions ⌝ }
-    {
-        Answer {
-            refusal: 0,
-            found: 0,
+            refusal,
+            found,
             step_count: 0,
             plan_gas: 0,
             plan_bytes: 0,
@@ -195,22 +177,25 @@ impl Answer {
         }
     }
 
+    // A refusal: zeros beside the number.
+    fn refused(n: u32) -> Answer
+        ensures { λ r. ⌜ r ≡ refused n ⌝ }
+    {
+        Answer::bare(n, 0, 0, 0)
+    }
+
+    // No plan.
+    fn nothing(ending: u32, expansions: usize) -> Answer
+        ensures { λ r. ⌜ r ≡ fieldsOf none ending expansions ⌝ }
+    {
+        Answer::bare(0, 0, ending, expansions)
+    }
+
     // The start is the goal.
     fn no_steps() -> Answer
         ensures { λ r. ⌜ r ≡ fieldsOf (some noSteps) 0 0 ⌝ }
     {
-        Answer {
-            refusal: 0,
-            found: 1,
-            step_count: 0,
-            plan_gas: 0,
-            plan_bytes: 0,
-            ceiling_gas: 0,
-            ceiling_bytes: 0,
-            origin: 0,
-            ending: 0,
-            expansions: 0,
-        }
+        Answer::bare(0, 1, 0, 0)
     }
 }
 

@@ -37,7 +37,7 @@ use Rattle.lists.proofs.Queue.{queue-length}
 use Rattle.offer.specs.View.{handOf, workOf, Now}
 use Rattle.offer.specs.declared.Held.{Held}
 use Rattle.offer.specs.declared.Sizes.{Sizes}
-use Rattle.search.specs.View.{rulesOf, allOffered, IsWindow, Awaits, Estimated}
+use Rattle.search.specs.View.{rulesOf, allOffered, IsWindow, Awaits, originOf}
 use Rattle.run.specs.View.{problemFor, allowance, searchOf, Roomy, Ran}
 use Rattle.run.specs.declared.Ask.{Ask}
 use Rattle.run.specs.declared.Limits.{Limits}
@@ -54,9 +54,9 @@ window-led q b v p x W m =
 entry-led : (q : Question) (a : Ask) → Bounds q → (e : Entry Cost) (g : Cost) (p : Option ℕ) (x : Succ Cost ℕ) → Awaits q e → List·Memᴰ x (problemFor q a .after (e .state) p) → Awaits q (entryOf gas-bytes (problemFor q a) g x)
 entry-led q a b e g p x W m = record { window = window-led q b (e .state) p x (W .window) m; summed = refl }
 
-after-is : (q : Question) (s : PackedState) (o : Option ℕ) (d : ℕ) → d ≡ depthOfCode o → problemOf q [] .after (whole s) o ≡ edgesFrom q (keysOf s) d
+after-is : (q : Question) (s : PackedState) (o : Option ℕ) → problemOf q [] .after (whole s) o ≡ edgesFrom q (keysOf s) (depthOfCode o)
 unfolding keysOf
-after-is q s o d e = ap (edgesFrom q (keysOf s)) (sym e)
+after-is q s o = refl
 
 -- What holds at the loop: the lists are in order and have kept their lengths, and the search that they stand for was reached.
 pub record Pass (q : Question) (a : Ask) (l : Limits) (s₀ : Search Cost ℕ) (xs₀ hs₀ os₀ xs hs os : List ℕ) (at : Sizes) (h : Held) (k : ℕ) : Type 0 where
@@ -176,21 +176,18 @@ module _ (q : Question) (a : Ask) (l : Limits) (s₀ : Search Cost ℕ) (xs₀ h
                 unfolding number
                 ended-expansions y = ran expansions (turn-expansions gas-bytes Q A s (waits e) es (T .taken) (nodeIs v) f fresh no-goal (sym uE ∙ m) (over-is ∙ w) (le-leb (l .most) k y))
 
-                awaits : Awaits q (waits e)
-                awaits = first-valid gas-bytes (Awaits q) (queueOf os (at .list)) (waits e) es (T .taken) (P .waiting)
+                pub expand-awaits : Awaits q (waits e)
+                expand-awaits = first-valid gas-bytes (Awaits q) (queueOf os (at .list)) (waits e) es (T .taken) (P .waiting)
 
-                pub expand-window : IsWindow q (stateOf (e .hi) (e .lo))
-                expand-window = awaits .window
-
-                pub expand-estimated : Estimated q (record { state = record { hi = e .hi; lo = e .lo }; cost = e .g }) (e .f)
-                expand-estimated = awaits .summed
+                abbrev edges : List (Succ Cost ℕ)
+                edges = edgesFrom q (keysOf (originOf e .state)) (depthOfCode (stepOf (parentIs (v .parent))))
 
                 pub passed-expanded :
-                    k < l .most → (d : ℕ) → d ≡ depthOfCode (stepOf (parentIs (v .parent))) → (ys gs zs : List ℕ) (r : Sizes) →
-                    Now (allOffered q h (record { state = record { hi = e .hi; lo = e .lo }; cost = e .g }) (edgesFrom q (keysOf (record { hi = e .hi; lo = e .lo })) d) (workOf xs (at .nodes) ps (at .list - 1))) (at .nodes + 50) (at .list - 1 + 50) ys gs zs r →
+                    k < l .most → (ys gs zs : List ℕ) (r : Sizes) →
+                    Now (allOffered q h (originOf e) edges (workOf xs (at .nodes) ps (at .list - 1))) (at .nodes + 50) (at .list - 1 + 50) ys gs zs r →
                     length ys ≡ length xs → length gs ≡ length hs → length zs ≡ length ps → length ps ≡ length os →
                     Pass q a l s₀ xs₀ hs₀ os₀ ys gs zs r h (k + 1)
-                passed-expanded y d dE ys gs zs r N ly lg lz lp = record {
+                passed-expanded y ys gs zs r N ly lg lz lp = record {
                   kept = N .kept;
                   piled = N .piled;
                   nodes-long = ly ∙ P .nodes-long;
@@ -206,13 +203,13 @@ module _ (q : Question) (a : Ask) (l : Limits) (s₀ : Search Cost ℕ) (xs₀ h
                     w₁ = workOf xs (at .nodes) ps (at .list - 1)
 
                     to-rule : offers gas-bytes Q (handOf h) (stateOf (e .hi) (e .lo)) (costOf (v .cost)) (Q .after (stateOf (e .hi) (e .lo)) (stepOf (parentIs (v .parent)))) w₁
-                        ≡ offers gas-bytes Q (handOf h) (stateOf (e .hi) (e .lo)) (costOf (e .g)) (edgesFrom q (keysOf (record { hi = e .hi; lo = e .lo })) d) w₁
-                    to-rule = ap₂ (λ (x : ℕ) (xs : List (Succ Cost ℕ)). offers gas-bytes Q (handOf h) (stateOf (e .hi) (e .lo)) (costOf x) xs w₁) c (after-is q (record { hi = e .hi; lo = e .lo }) (stepOf (parentIs (v .parent))) d dE)
+                        ≡ offers gas-bytes Q (handOf h) (stateOf (e .hi) (e .lo)) (costOf (e .g)) edges w₁
+                    to-rule = ap₂ (λ (x : ℕ) (xs : List (Succ Cost ℕ)). offers gas-bytes Q (handOf h) (stateOf (e .hi) (e .lo)) (costOf x) xs w₁) c (after-is q (originOf e .state) (stepOf (parentIs (v .parent))))
 
                     work-is : offers gas-bytes Q (handOf h) (stateOf (e .hi) (e .lo)) (costOf (v .cost)) (Q .after (stateOf (e .hi) (e .lo)) (stepOf (parentIs (v .parent)))) w₁ ≡ workOf ys (r .nodes) zs (r .list)
                     work-is =
                         to-rule
-                        ∙ offers-any (rulesOf q) (whole (a .start)) (whole (a .goal)) (problemOf q [] .start) (problemOf q [] .goal) (handOf h) (stateOf (e .hi) (e .lo)) (costOf (e .g)) (edgesFrom q (keysOf (record { hi = e .hi; lo = e .lo })) d) w₁
+                        ∙ offers-any (rulesOf q) (whole (a .start)) (whole (a .goal)) (problemOf q [] .start) (problemOf q [] .goal) (handOf h) (stateOf (e .hi) (e .lo)) (costOf (e .g)) edges w₁
                         ∙ sym (N .work)
 
                     turned : turn gas-bytes Q A s ≡ go (searchOf ys zs r h (k + 1))

@@ -12,7 +12,6 @@ ghost use Rattle.search.specs.View.{Awaits};
 ghost use Rattle.run.specs.View.{searchOf, Roomy, Ran};
 use lists::Known;
 use offer::Held;
-use offer::Origin;
 use offer::Sizes;
 use search::Setup;
 use window::PackedState;
@@ -105,22 +104,7 @@ pub fn run(
         if limits.most <= count {
             break 'turns 5;
         }
-        let parent = node.parent;
-        let last = search::last_depth(parent);
-        let p = Origin { state, cost: e.g };
-        at = search::expand(
-            nodes,
-            heads,
-            list,
-            table,
-            prices,
-            setup,
-            at,
-            held,
-            p,
-            e.f,
-            last,
-        );
+        at = search::expand_drawn(nodes, heads, list, table, prices, setup, at, held, e, node);
         count += 1;
     };
     Left {

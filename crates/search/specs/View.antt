@@ -20,6 +20,7 @@ use Rattle.problem.specs.Problem.{edge, problemOf}
 use Rattle.moves.specs.Codes.{Coded}
 use Rattle.offer.specs.Rules.{Rules}
 use Rattle.offer.specs.View.{IsCode, succOf, handOf}
+use Rattle.heap.specs.declared.Entry.{Entry as Waiting}
 use Rattle.offer.specs.declared.Held.{Held}
 use Rattle.offer.specs.declared.Origin.{Origin}
 use Rattle.offer.specs.declared.Successor.{Successor}
@@ -65,3 +66,7 @@ pub record Awaits (q : Question) (e : Entry Cost) : Type 0 where
 -- the number f stands for the cost of p and its estimate
 abbrev pub Estimated : Question → Origin → ℕ → Type 0
 Estimated q p f = costOf f ≡ gas-bytes ._⊞_ (costOf (p .cost)) (problemOf q [] .est (whole (p .state)))
+
+-- the state of an open entry, and its cost
+abbrev pub originOf : Waiting → Origin
+originOf e = record { state = record { hi = e .hi; lo = e .lo }; cost = e .g }

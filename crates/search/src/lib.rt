@@ -13,10 +13,12 @@ ghost use Rattle.moves.specs.Moves.{Parent as Expanding};
 ghost use Rattle.moves.specs.Codes.{Coded};
 ghost use Rattle.heuristic.specs.Counts.{Counted};
 ghost use Rattle.successors.specs.Whole.{Expanded};
-ghost use Rattle.lists.specs.View.{parentIs, Kept, Piled};
+ghost use Rattle.lists.specs.View.{parentIs, waits, Kept, Piled};
 ghost use Rattle.offer.specs.View.{workOf, Now};
 ghost use Rattle.search.specs.Table.{wantIn, goalIn, questionOf, Ready};
-ghost use Rattle.search.specs.View.{edgeBy, allOffered, Followed, AllCoded, IsWindow, Estimated};
+ghost use Rattle.search.specs.View.{edgeBy, allOffered, Followed, AllCoded, IsWindow, Awaits, Estimated, originOf};
+use heap::Entry;
+use lists::Node;
 use lists::Parent;
 use offer::Held;
 use offer::Origin;
@@ -34,7 +36,7 @@ pub struct Setup {
 }
 
 // The depth of the Swap that led to a state, 0 if its step was none.
-pub fn last_depth(parent: Parent) -> usize
+fn last_depth(parent: Parent) -> usize
     ensures { λ r. ⌜ r ≡ depthOfCode (stepOf (parentIs parent)) ⌝ }
 {
     let Parent::By(_, step) = parent else {
@@ -183,7 +185,7 @@ fn drawn(p: Origin, f: u64, setup: Setup, table: &[u8], prices: &[u32], have: &m
 }
 
 // Expands p, where f is its cost and estimate, and last is the depth of the Swap that led to it or 0: offers its successors in order.
-pub fn expand(
+fn expand(
     nodes: &mut [u64],
     heads: &mut [u64],
     list: &mut [u64],
@@ -227,5 +229,48 @@ pub fn expand(
         sizes,
         held,
         p,
+    )
+}
+
+// Expands the entry e that was drawn, where node is its node.
+pub fn expand_drawn(
+    nodes: &mut [u64],
+    heads: &mut [u64],
+    list: &mut [u64],
+    table: &[u8],
+    prices: &[u32],
+    setup: Setup,
+    sizes: Sizes,
+    held: Held,
+    e: Entry,
+    node: Node,
+) -> Sizes
+    requires { ⌜ Kept (now nodes) (now heads) (sizes .nodes) ⌝ }
+    requires { ⌜ Piled (now list) (sizes .list) ⌝ }
+    requires { ⌜ sizes .nodes * 8 + 400 ≤ length (now nodes) ⌝ }
+    requires { ⌜ sizes .list * 4 + 200 ≤ length (now list) ⌝ }
+    requires { ⌜ Ready setup (now table) (now prices) ⌝ }
+    requires { ⌜ Awaits (questionOf setup (now table) (now prices)) (waits e) ⌝ }
+    ensures { λ r. ⌜ Now (allOffered (questionOf setup (now (table .entry)) (now (prices .entry))) held (originOf e)
+        (edgesFrom (questionOf setup (now (table .entry)) (now (prices .entry))) (keysOf (originOf e .state)) (depthOfCode (stepOf (parentIs (node .parent)))))
+        (workOf (now (nodes .entry)) (sizes .nodes) (now (list .entry)) (sizes .list)))
+        (sizes .nodes + 50) (sizes .list + 50) (now (nodes .exit)) (now (heads .exit)) (now (list .exit)) r ⌝ }
+{
+    let parent = node.parent;
+    let last = last_depth(parent);
+    let state = PackedState { hi: e.hi, lo: e.lo };
+    let p = Origin { state, cost: e.g };
+    expand(
+        nodes,
+        heads,
+        list,
+        table,
+        prices,
+        setup,
+        sizes,
+        held,
+        p,
+        e.f,
+        last,
     )
 }

@@ -1,6 +1,6 @@
 -- Where each key first stands among the places that a Dup reaches, as a table of 64 numbers: place plus one, 0 if it stands nowhere.
 use Prim.Native.Nat.{ℕ, zero, suc, _+_, _-_, _≤_, _<_}
-use mathlib.Core.Path.{_≡_, refl, ap, sym, _∙_}
+use mathlib.Core.Path.{_≡_, refl, sym, _∙_}
 use mathlib.Core.Bool.{Bool, true, false, not, _||_, _&&_}
 use mathlib.Core.List.{List, [], _∷_, _++_}
 use native.Mathlib.Omega.{arith}
@@ -46,13 +46,8 @@ placed-more table xs i x l c = record { size = length-set table x (suc i) ∙ c 
         rw (getD-set-other table x k (suc i) 0 (λ p. q (sym p)), c .at k m) (sym (place-on i k x xs q))
 
 -- a turn from the end
-pub placed-turn : (table next xs : List ℕ) (i x v : ℕ) → 0 < i → i ≤ length xs → x < 64 → x ≡ getD xs (i - 1) 0 → v ≡ i → next ≡ set table x v → Placed table i (drop i xs) → Placed next (i - 1) (drop (i - 1) xs)
-placed-turn table next xs i x v p l m e f h c =
-    let b : i - 1 < length xs = omega arith in
-    let q : i ≡ suc (i - 1) = omega arith in
-    let c' : Placed table (suc (i - 1)) (drop (suc (i - 1)) xs) = rw (← q) c in
-    let w : v ≡ suc (i - 1) = omega arith in
-    rw (drop-cons xs (i - 1) 0 b, ← e, h, w) (placed-more table (drop (suc (i - 1)) xs) (i - 1) x m c')
+placed-turn : (table xs : List ℕ) (j x : ℕ) → j < length xs → x < 64 → x ≡ getD xs j 0 → Placed table (suc j) (drop (suc j) xs) → Placed (set table x (suc j)) j (drop j xs)
+placed-turn table xs j x l m e c = rw (drop-cons xs j 0 l, ← e) (placed-more table (drop (suc j) xs) j x m c)
 
 pub placed-begin : (table xs : List ℕ) (n : ℕ) → n ≡ length xs → Placed table n [] → Placed table n (drop n xs)
 placed-begin table xs n e c = let l : length xs ≤ n = omega arith in rw (drop-of-length-le xs l) c
@@ -83,38 +78,36 @@ module _ (table w : List ℕ) (reach : ℕ) (c : Placed table 0 (take reach w)) 
   pub nowhere : (k : ℕ) → k < 64 → eqb (getD table k 0) 0 ≡ not (has k (take reach w))
   nowhere k l = rw (c .at k l) (place-nowhere 0 k (take reach w))
 
-  pub first-here : (p k : ℕ) → p < reach → k < 64 → k ≡ getD w p 0 → eqb (getD table k 0) (p + 1) ≡ not (has k (take p w))
-  first-here p k l m e =
+  pub first-here : (p : ℕ) → p < reach → getD w p 0 < 64 → eqb (getD table (getD w p 0) 0) (p + 1) ≡ not (has (getD w p 0) (take p w))
+  first-here p l m =
       let b : p < length (take reach w) = omega (arith, length-take reach w) in
-      let g : getD (take reach w) p 0 ≡ k = getD-take reach w p 0 l ∙ sym e in
+      let g : getD (take reach w) p 0 ≡ getD w p 0 = getD-take reach w p 0 l in
       let t : take p (take reach w) ≡ take p w = take-take p reach w (omega arith) in
       let f = place-first 0 p (take reach w) b in
       let f' = rw (g, t) at f in
       let z : 0 + p + 1 ≡ p + 1 = omega arith in
-      rw (c .at k m, ← z) f'
+      rw (c .at (getD w p 0) m, ← z) f'
 
 pub placed-end : (table xs : List ℕ) (i : ℕ) → i ≤ 0 → Placed table i (drop i xs) → Placed table 0 xs
 placed-end table xs i l c = let z : i ≡ 0 = omega arith in rw z at c
 
-pub placed-start : (w : List ℕ) (n : ℕ) → n ≤ length w → Placed (replicate 64 0) n (drop n (take n w))
-placed-start w n l = placed-begin (replicate 64 0) (take n w) n (let e : n ≡ length (take n w) = omega (arith, length-take n w) in e) (placed-none n)
-
 -- a turn over the first places of a window
-pub placed-on : (table next w : List ℕ) (n i x v : ℕ) → n ≤ length w → 0 < i → i ≤ n → x < 64 → x ≡ getD w (i - 1) 0 → v ≡ i → next ≡ set table x v → Placed table i (drop i (take n w)) → Placed next (i - 1) (drop (i - 1) (take n w))
-placed-on table next w n i x v a p l m e f h c =
-    let b : i ≤ length (take n w) = omega (arith, length-take n w) in
-    let d : i - 1 < n = omega arith in
-    placed-turn table next (take n w) i x v p b m (e ∙ sym (getD-take n w (i - 1) 0 d)) f h c
+pub placed-on : (table w : List ℕ) (n i : ℕ) → n ≤ length w → 0 < i → i ≤ n → getD w (i - 1) 0 < 64 → Placed table i (drop i (take n w)) → Placed (set table (getD w (i - 1) 0) i) (i - 1) (drop (i - 1) (take n w))
+placed-on table w n zero a p l m c = absurd (omega arith)
+placed-on table w n (suc j) a p l m c =
+    let b : j < length (take n w) = omega (arith, length-take n w) in
+    let z : suc j - 1 ≡ j = omega arith in
+    rw z (placed-turn table (take n w) j (getD w j 0) b (rw z at m) (sym (getD-take n w j 0 l)) c)
 
 -- ---- the tests by the table
 
-pub dup-first : (kinds goal w : List ℕ) (p x : ℕ) (t : ℕ) (z : Bool) → x ≡ getD w p 0 → eqb t (p + 1) ≡ not (has x (take p w)) → t ≡ p + 1 → z ≡ goalZero kinds goal x → not z ≡ dupOffered kinds goal w p
+pub dup-first : (kinds goal w : List ℕ) (p t : ℕ) (z : Bool) → eqb t (p + 1) ≡ not (has (getD w p 0) (take p w)) → t ≡ p + 1 → z ≡ goalZero kinds goal (getD w p 0) → not z ≡ dupOffered kinds goal w p
 unfolding dupOffered
-dup-first kinds goal w p x t z a b e f = let h = rw (eq-eqb t (p + 1) e) at b in rw (← a, ← h, ← f)
+dup-first kinds goal w p t z b e f = let h = rw (eq-eqb t (p + 1) e) at b in rw (← h, ← f)
 
-pub dup-again : (kinds goal w : List ℕ) (p x : ℕ) (t : ℕ) → x ≡ getD w p 0 → eqb t (p + 1) ≡ not (has x (take p w)) → (t ≡ p + 1 → ⊥) → false ≡ dupOffered kinds goal w p
+pub dup-again : (kinds goal w : List ℕ) (p t : ℕ) → eqb t (p + 1) ≡ not (has (getD w p 0) (take p w)) → (t ≡ p + 1 → ⊥) → false ≡ dupOffered kinds goal w p
 unfolding dupOffered
-dup-again kinds goal w p x t a b e = let h = rw (ne-eqb t (p + 1) e) at b in rw (← a, ← h)
+dup-again kinds goal w p t b e = let h = rw (ne-eqb t (p + 1) e) at b in rw (← h)
 
 -- the table's test of a load is the definition's
 pub load-is : (kinds table w : List ℕ) (reach k : ℕ) → Placed table 0 (take reach w) → reach ≤ length w → k < 64 → (kindIs kinds 0 k && eqb (getD table k 0) 0) ≡ loadOffered kinds w reach k

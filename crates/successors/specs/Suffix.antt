@@ -1,6 +1,6 @@
 -- Laws of the common suffix of a window and the goal, compared from the bottom.
-use Prim.Native.Nat.{ℕ, zero, suc, _+_, _-_, _≤_, _<_, min}
-use mathlib.Core.Path.{_≡_, refl, ap, sym, _∙_}
+use Prim.Native.Nat.{ℕ, suc, _+_, _-_, _≤_, _<_, min}
+use mathlib.Core.Path.{_≡_, refl, _∙_}
 use mathlib.Core.Bool.{Bool, true, false}
 use mathlib.Core.List.{List, [], _∷_, _++_, reverse, reverse-cons}
 use native.Mathlib.Omega.{arith}
@@ -54,46 +54,27 @@ getD-reverse (x ∷ l) i h = rw (reverse-cons x l) (go (ltb i (length l)) refl (
         rw q (getD-at (reverse l) x [] 0 i n)
 
 -- what a compared place says: the keys at place k from the bottom
-module _ (w goal : List ℕ) (k x y : ℕ) (hx : x ≡ getD w (length w - 1 - k) 0) (hy : y ≡ getD goal (length goal - 1 - k) 0) (l : k < min (length w) (length goal)) where
-  turn : common (drop k (reverse w)) (drop k (reverse goal)) ≡ (suc (common (drop (k + 1) (reverse w)) (drop (k + 1) (reverse goal))) if eqb x y otherwise 0)
+module _ (w goal : List ℕ) (k : ℕ) (l : k < min (length w) (length goal)) where
+  abbrev key : List ℕ → ℕ
+  key xs = getD xs (length xs - 1 - k) 0
+
+  turn : common (drop k (reverse w)) (drop k (reverse goal)) ≡ (suc (common (drop (k + 1) (reverse w)) (drop (k + 1) (reverse goal))) if eqb (key w) (key goal) otherwise 0)
   turn =
       let a : k < length w = omega arith in
       let b : k < length goal = omega arith in
       let a' : k < length (reverse w) = rw (length-reverse w) a in
       let b' : k < length (reverse goal) = rw (length-reverse goal) b in
-      rw (hx, hy, ← getD-reverse w k a, ← getD-reverse goal k b) (common-turn (reverse w) (reverse goal) k a' b')
+      rw (← getD-reverse w k a, ← getD-reverse goal k b) (common-turn (reverse w) (reverse goal) k a' b')
 
-  pub common-differs : (x ≡ y → ⊥) → common (reverse w) (reverse goal) ≡ k + common (drop k (reverse w)) (drop k (reverse goal)) → length w - k ≡ suffixStart w goal
+  pub common-differs : (key w ≡ key goal → ⊥) → common (reverse w) (reverse goal) ≡ k + common (drop k (reverse w)) (drop k (reverse goal)) → length w - k ≡ suffixStart w goal
   unfolding suffixStart
-  common-differs n h = let t = rw (ne-eqb x y n) at turn in omega arith
+  common-differs n h = let t = rw (ne-eqb (key w) (key goal) n) at turn in omega arith
 
-  pub common-same : x ≡ y → common (reverse w) (reverse goal) ≡ k + common (drop k (reverse w)) (drop k (reverse goal)) → common (reverse w) (reverse goal) ≡ k + 1 + common (drop (k + 1) (reverse w)) (drop (k + 1) (reverse goal))
-  common-same e h = let t = rw (eq-eqb x y e) at turn in omega arith
+  pub common-same : key w ≡ key goal → common (reverse w) (reverse goal) ≡ k + common (drop k (reverse w)) (drop k (reverse goal)) → common (reverse w) (reverse goal) ≡ k + 1 + common (drop (k + 1) (reverse w)) (drop (k + 1) (reverse goal))
+  common-same e h = let t = rw (eq-eqb (key w) (key goal) e) at turn in omega arith
 
 pub common-stops : (w goal : List ℕ) (k : ℕ) → min (length w) (length goal) ≤ k → common (reverse w) (reverse goal) ≡ k + common (drop k (reverse w)) (drop k (reverse goal)) → length w - k ≡ suffixStart w goal
 unfolding suffixStart
 common-stops w goal k l h =
     let m : min (length (reverse w)) (length (reverse goal)) ≤ k = rw (length-reverse w, length-reverse goal) l in
     omega (arith, common-end (reverse w) (reverse goal) k m)
-
--- the same as the code has it: n and m are the two lengths
-module _ (w goal : List ℕ) (n m k x y : ℕ) (e : n ≡ length w) (f : m ≡ length goal) (hx : x ≡ getD w (n - 1 - k) 0) (hy : y ≡ getD goal (m - 1 - k) 0) (l : k < min n m) where
-  left : x ≡ getD w (length w - 1 - k) 0
-  left = hx ∙ ap (λ (a : ℕ). getD w (a - 1 - k) 0) e
-
-  right : y ≡ getD goal (length goal - 1 - k) 0
-  right = hy ∙ ap (λ (a : ℕ). getD goal (a - 1 - k) 0) f
-
-  below : k < min (length w) (length goal)
-  below = omega arith
-
-  pub differs-at : (x ≡ y → ⊥) → common (reverse w) (reverse goal) ≡ k + common (drop k (reverse w)) (drop k (reverse goal)) → n - k ≡ suffixStart w goal
-  differs-at d h = ap (λ (a : ℕ). a - k) e ∙ common-differs w goal k x y left right below d h
-
-  pub same-at : x ≡ y → common (reverse w) (reverse goal) ≡ k + common (drop k (reverse w)) (drop k (reverse goal)) → common (reverse w) (reverse goal) ≡ k + 1 + common (drop (k + 1) (reverse w)) (drop (k + 1) (reverse goal))
-  same-at d h = common-same w goal k x y left right below d h
-
-pub stops-at : (w goal : List ℕ) (n m k : ℕ) → n ≡ length w → m ≡ length goal → min n m ≤ k → common (reverse w) (reverse goal) ≡ k + common (drop k (reverse w)) (drop k (reverse goal)) → n - k ≡ suffixStart w goal
-stops-at w goal n m k e f l h =
-    let b : min (length w) (length goal) ≤ k = omega arith in
-    ap (λ (a : ℕ). a - k) e ∙ common-stops w goal k b h

@@ -1,11 +1,11 @@
 -- Laws of the tests that the code makes.
-use Prim.Native.Nat.{ℕ, zero, suc, _+_, _-_, _≤_, _<_}
+use Prim.Native.Nat.{ℕ, _+_, _-_, _≤_, _<_}
 use mathlib.Core.Path.{_≡_, refl, ap, sym, _∙_}
 use mathlib.Core.Bool.{Bool, true, false, not, _||_, _&&_}
-use mathlib.Core.List.{List, [], _∷_}
+use mathlib.Core.List.{List}
 use native.Mathlib.Omega.{arith}
 use native.Mathlib.Numerals.{add-one}
-use lib.ListN.{length, getD, take, drop, drop-of-length-le}
+use lib.ListN.{length, getD, drop, drop-of-length-le}
 use lib.Seq.{drop-cons}
 use lib.Dec.{eqb, ltb, leb}
 use borrow.Author.Tests.{eq-eqb, ne-eqb, lt-ltb, lt-leb, le-leb, ltb-true, ltb-false}
@@ -20,6 +20,11 @@ use Rattle.successors.specs.Successors.{swapOffered, dupServes, priceBy}
 -- every key of a list is below 64
 abbrev pub KeysFit : List ℕ → Type 0
 KeysFit ks = (i : ℕ) → i < length ks → getD ks i 0 < 64
+
+-- the keys of a window: each is below 64, and there are at most 21
+pub record Keyed (w : List ℕ) : Type 0 where
+  pub fit : KeysFit w
+  pub few : length w ≤ 21
 
 pub has-turn : (k : ℕ) (l : List ℕ) (i : ℕ) → i < length l → has k (drop i l) ≡ (eqb (getD l i 0) k || has k (drop (i + 1) l))
 unfolding has
@@ -67,31 +72,31 @@ module _ (w : List ℕ) (m s l d : ℕ) where
   unfolding swapOffered
   swap-last n e = let p : 0 < d = omega arith in rw (lt-ltb 0 d p, eq-eqb d l e)
 
-  pub swap-same : (x y : ℕ) → (d ≡ 0 → ⊥) → (d ≡ l → ⊥) → x ≡ getD w 0 0 → y ≡ getD w d 0 → x ≡ y → false ≡ swapOffered w m s l d
+  pub swap-same : (d ≡ 0 → ⊥) → (d ≡ l → ⊥) → getD w 0 0 ≡ getD w d 0 → false ≡ swapOffered w m s l d
   unfolding swapOffered
-  swap-same x y n k a b e = let p : 0 < d = omega arith in rw (lt-ltb 0 d p, ne-eqb d l k, eq-eqb (getD w 0 0) (getD w d 0) (sym a ∙ e ∙ b))
+  swap-same n k e = let p : 0 < d = omega arith in rw (lt-ltb 0 d p, ne-eqb d l k, eq-eqb (getD w 0 0) (getD w d 0) e)
 
-  pub swap-below : (x y : ℕ) → (d ≡ 0 → ⊥) → (d ≡ l → ⊥) → x ≡ getD w 0 0 → y ≡ getD w d 0 → (x ≡ y → ⊥) → s ≤ d → leb m d ≡ swapOffered w m s l d
+  pub swap-below : (d ≡ 0 → ⊥) → (d ≡ l → ⊥) → (getD w 0 0 ≡ getD w d 0 → ⊥) → s ≤ d → leb m d ≡ swapOffered w m s l d
   unfolding swapOffered
-  swap-below x y n k a b e f =
+  swap-below n k e f =
       let p : 0 < d = omega arith in
-      rw (lt-ltb 0 d p, ne-eqb d l k, ne-eqb (getD w 0 0) (getD w d 0) (λ q. e (a ∙ q ∙ sym b)), le-leb s d f) (sym (not-ltb d m))
+      rw (lt-ltb 0 d p, ne-eqb d l k, ne-eqb (getD w 0 0) (getD w d 0) e, le-leb s d f) (sym (not-ltb d m))
 
-  pub swap-free : (x y : ℕ) → (d ≡ 0 → ⊥) → (d ≡ l → ⊥) → x ≡ getD w 0 0 → y ≡ getD w d 0 → (x ≡ y → ⊥) → d < s → true ≡ swapOffered w m s l d
+  pub swap-free : (d ≡ 0 → ⊥) → (d ≡ l → ⊥) → (getD w 0 0 ≡ getD w d 0 → ⊥) → d < s → true ≡ swapOffered w m s l d
   unfolding swapOffered
-  swap-free x y n k a b e f =
+  swap-free n k e f =
       let p : 0 < d = omega arith in
-      rw (lt-ltb 0 d p, ne-eqb d l k, ne-eqb (getD w 0 0) (getD w d 0) (λ q. e (a ∙ q ∙ sym b)), lt-leb s d f)
+      rw (lt-ltb 0 d p, ne-eqb d l k, ne-eqb (getD w 0 0) (getD w d 0) e, lt-leb s d f)
 
 -- ---- the test of a Dup's price
 
-pub serves-not : (prices w : List ℕ) (k p x : ℕ) → x ≡ getD w p 0 → (x ≡ k → ⊥) → false ≡ dupServes prices w k p
+pub serves-not : (prices w : List ℕ) (k p : ℕ) → (getD w p 0 ≡ k → ⊥) → false ≡ dupServes prices w k p
 unfolding dupServes
-serves-not prices w k p x a e = rw (ne-eqb (getD w p 0) k (λ q. e (a ∙ q)))
+serves-not prices w k p e = rw (ne-eqb (getD w p 0) k e)
 
-pub serves-by : (prices w : List ℕ) (k p x : ℕ) (r : Bool) (a b : Cost) → x ≡ getD w p 0 → x ≡ k → a ≡ priceOf prices (Known (Dup p)) → b ≡ priceOf prices (Known (PushImm k)) → r ≡ noMore a b → r ≡ dupServes prices w k p
+pub serves-by : (prices w : List ℕ) (k p : ℕ) (r : Bool) (a b : Cost) → getD w p 0 ≡ k → a ≡ priceOf prices (Known (Dup p)) → b ≡ priceOf prices (Known (PushImm k)) → r ≡ noMore a b → r ≡ dupServes prices w k p
 unfolding dupServes priceBy
-serves-by prices w k p x r a b e f g h i = rw (eq-eqb (getD w p 0) k (sym e ∙ f), ← g, ← h) i
+serves-by prices w k p r a b e f g h = rw (eq-eqb (getD w p 0) k e, ← f, ← g) h
 
 pub some-here : (t : ℕ → Bool) (n p : ℕ) (b : Bool) → someBelow t n ≡ someBelow t p → 0 < p → b ≡ t (p - 1) → b ≡ true → true ≡ someBelow t n
 some-here t n p b h l e f =

@@ -1,25 +1,21 @@
 -- An expansion as a whole: what it may rest on, what it gives, and the law that puts its parts together.
 use Prim.Native.Nat.{ℕ, zero, suc, _+_, _-_, _≤_, _<_, min}
-use mathlib.Core.Path.{_≡_, refl, ap, sym, _∙_}
-use mathlib.Core.Bool.{true}
+use mathlib.Core.Path.{_≡_, ap, _∙_}
 use mathlib.Core.List.{List, [], _∷_, _++_, map}
 use native.Mathlib.Omega.{arith}
 use lib.ListN.{length, getD, take, length-append}
-use lib.Dec.{ltb}
 use Rattle.costs.specs.Step.{codeOf}
 use Rattle.costs.specs.declared.Step.{Step}
-use Rattle.costs.specs.declared.Step.the-variants.{Pop}
-use Rattle.replay.specs.Machine.{Rules, ruled, room}
-use Rattle.replay.specs.Laws.{room-below}
+use Rattle.replay.specs.Machine.{ruled}
 use Rattle.replay.specs.declared.SearchCfg.{SearchCfg}
 use Rattle.window.specs.declared.PackedState.{PackedState}
 use Rattle.window.specs.Laws.{key-lt}
-use Rattle.window.specs.Keys.{keysOf, Window}
-use Rattle.successors.specs.Parts.{offer, upTo, All}
-use Rattle.successors.specs.Successors.{Question, suffixStart, firsts, zeros, swapAt, dups, others, loads, grown, stepsFrom}
+use Rattle.window.specs.Keys.{keysOf, Window, keys-length}
+use Rattle.successors.specs.Parts.{upTo, All}
+use Rattle.successors.specs.Successors.{Question, suffixStart, pops, firsts, zeros, swapAt, dups, others, loads, grown, stepsFrom}
 use Rattle.successors.specs.Limits.{Bounds, steps-at-most, firsts-keys}
-use Rattle.successors.specs.Tests.{KeysFit}
-use Rattle.successors.specs.Listed.{Steps, steps, listed, Roomy, Added, added-then}
+use Rattle.successors.specs.Tests.{KeysFit, Keyed}
+use Rattle.successors.specs.Listed.{steps, listed, Roomy, Added, added-then}
 
 abbrev pub asked : SearchCfg → (kinds prices goal : List ℕ) → Question
 asked cfg kinds prices goal = record { rules = ruled cfg kinds; prices = prices; goal = goal }
@@ -38,58 +34,47 @@ pub record Expanded (q : Question) (w : List ℕ) (last : ℕ) (before after : L
   pub few : n ≤ 50
   pub size : length after ≡ length before
 
--- a window with room, the kinds, and keys to push or load
-pub record Pushing (state : PackedState) (ns ks : List ℕ) : Type 0 where
-  pub window : Window state
+-- what an expansion rests on beside the window
+pub record Expanding (q : Question) (ks : List ℕ) : Type 0 where
+  pub kinds : length (q .rules .kinds) ≡ 64
+  pub bounds : Bounds q
+  pub keys : ks ≡ firsts (q .goal)
+
+-- the kinds, and keys to push or load
+pub record Pushing (ns ks : List ℕ) : Type 0 where
   pub kinds : length ns ≡ 64
   pub keys : KeysFit ks
-  pub room : length (keysOf state) < 21
-
--- the kinds and keys that an expansion of a window of n keys goes by
-pub record Expanding (state : PackedState) (ns ks : List ℕ) (n maxLen : ℕ) : Type 0 where
-  pub window : Window state
-  pub kinds : length ns ≡ 64
-  pub keys : KeysFit ks
-  pub size : n ≡ length (keysOf state)
-  pub limit : maxLen ≤ 21
-
-pub pushing : (state : PackedState) (ns ks : List ℕ) (n maxLen : ℕ) → Expanding state ns ks n maxLen → room maxLen n ≡ true → Pushing state ns ks
-pushing state ns ks n maxLen e t =
-    record { window = e .window; kinds = e .kinds; keys = e .keys; room = omega (arith, room-below maxLen n t, e .size, e .limit) }
 
 all-at : (P : ℕ → Type 0) (xs : List ℕ) → All P xs → (i : ℕ) → i < length xs → P (getD xs i 0)
 all-at P [] h i l = absurd (omega arith)
 all-at P (x ∷ xs) h zero l = h .0
 all-at P (x ∷ xs) h (suc i) l = all-at P xs (h .1) i (omega arith)
 
-pub keys-fit : (state : PackedState) (q : Question) (ks : List ℕ) → Expandable state q ks → KeysFit ks
-keys-fit state q ks e = rw (e .keys) (all-at (λ k. k < 64) (firsts (q .goal)) (firsts-keys (q .goal) (e .bounds .keys)))
+pub pushing : (q : Question) (ks : List ℕ) → Expanding q ks → Pushing (q .rules .kinds) ks
+pushing q ks e = record { kinds = e .kinds; keys = rw (e .keys) (all-at (λ k. k < 64) (firsts (q .goal)) (firsts-keys (q .goal) (e .bounds .keys))) }
 
-pub goal-fit : (state : PackedState) (q : Question) (ks : List ℕ) → Expandable state q ks → KeysFit (q .goal)
-goal-fit state q ks e i l = key-lt 6 (q .goal) i (e .bounds .keys)
-
-pub expanding : (state : PackedState) (q : Question) (ks : List ℕ) (n : ℕ) → Expandable state q ks → n ≡ length (keysOf state) → Expanding state (q .rules .kinds) ks n (q .rules .maxLen)
-expanding state q ks n e h =
-    record { window = e .window; kinds = e .kinds; keys = keys-fit state q ks e; size = h; limit = e .bounds .window }
+-- the keys of a window are such a list
+pub keyed : (state : PackedState) (w : List ℕ) → Window state → w ≡ keysOf state → Keyed w
+keyed state w h e = rw e (record { fit = λ i l. key-lt 6 (keysOf state) i (h .keys); few = keys-length state })
 
 -- the four parts, by the numbers that the code has at hand
-module _ (q : Question) (w ks : List ℕ) (n start limit reach last : ℕ) where
+module _ (q : Question) (w ks : List ℕ) (start limit reach last : ℕ) where
   abbrev pub partPop : List Step
-  partPop = offer (ltb 0 n) Pop
+  partPop = pops w
 
   abbrev pub partZero : List Step
-  partZero = grown (q .rules .maxLen) n (zeros (q .rules .kinds) ks)
+  partZero = grown (q .rules .maxLen) (length w) (zeros (q .rules .kinds) ks)
 
   abbrev pub partSwap : List Step
   partSwap = upTo (swapAt w (q .rules .dupMax) start last) limit
 
   abbrev pub partRest : List Step
-  partRest = grown (q .rules .maxLen) n (dups (q .rules .kinds) (q .goal) w reach ++ (others (q .rules .kinds) (q .prices) ks w reach ++ loads (q .rules .kinds) ks w reach))
+  partRest = grown (q .rules .maxLen) (length w) (dups (q .rules .kinds) (q .goal) w reach ++ (others (q .rules .kinds) (q .prices) ks w reach ++ loads (q .rules .kinds) ks w reach))
 
-  module _ (hn : n ≡ length w) (hs : start ≡ suffixStart w (q .goal)) (hl : limit ≡ min n (q .rules .swapMax)) (hr : reach ≡ min n (q .rules .dupMax)) (hk : ks ≡ firsts (q .goal)) where
+  module _ (hs : start ≡ suffixStart w (q .goal)) (hl : limit ≡ min (length w) (q .rules .swapMax)) (hr : reach ≡ min (length w) (q .rules .dupMax)) (hk : ks ≡ firsts (q .goal)) where
     pub parts-are : partPop ++ (partZero ++ (partSwap ++ partRest)) ≡ stepsFrom q w last
     unfolding stepsFrom
-    parts-are = rw (hl, hr, hs, hk, hn)
+    parts-are = rw (hl, hr, hs, hk)
 
     module _ (b : Bounds q) where
       whole-room : length (partPop ++ (partZero ++ (partSwap ++ partRest))) ≤ 50

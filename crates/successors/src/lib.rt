@@ -6,12 +6,12 @@ use window::PackedState;
 ghost use mathlib.Core.Path.{_≡_};
 ghost use mathlib.Core.List.{[], _∷_, _++_};
 ghost use Prim.Native.Nat.{_+_, _-_, _<_, _≤_, min};
-ghost use lib.ListN.{length, getD, set, take};
+ghost use lib.ListN.{length, getD, take};
 ghost use Rattle.replay.specs.Machine.{room};
 ghost use Rattle.window.specs.Keys.{keysOf, Window};
 ghost use Rattle.successors.specs.Parts.{offer, has, upTo};
 ghost use Rattle.successors.specs.Successors.{suffixStart, isFirst, firsts, kindIs, swapOffered, goalZero, dupOffered, dupServes, dominated, otherOffered, loadOffered, swapAt, dups, zeros, others, loads, grown};
-ghost use Rattle.successors.specs.Tests.{KeysFit};
+ghost use Rattle.successors.specs.Tests.{Keyed};
 ghost use Rattle.successors.specs.Places.{Placed};
 ghost use Rattle.successors.specs.Kept.{kept};
 ghost use Rattle.successors.specs.Listed.{steps, Roomy, Added};
@@ -47,15 +47,15 @@ fn kind_is(kinds: &[u8], kind: u8, key: u8) -> bool
 }
 
 // The place where the common suffix of the window and the goal starts.
-fn suffix_start(state: PackedState, n: usize, goal: &[u8]) -> usize
-    requires { ⌜ Window state × (n ≡ length (keysOf state)) ⌝ }
-    ensures { λ r. ⌜ r ≡ suffixStart (keysOf state) (now (goal .entry)) ⌝ }
+fn suffix_start(w: &[u8], goal: &[u8]) -> usize
+    ensures { λ r. ⌜ r ≡ suffixStart (now (w .entry)) (now (goal .entry)) ⌝ }
 {
+    let n = w.len();
     let m = goal.len();
     let limit = least(n, m);
     let mut k = 0;
     while k < limit {
-        if state.get(n - 1 - k) != goal[m - 1 - k] {
+        if w[n - 1 - k] != goal[m - 1 - k] {
             return n - k;
         }
         k += 1;
@@ -124,13 +124,13 @@ pub fn distinct_keys(list: &[u8]) -> Distinct
 }
 
 // The first places, plus one, of the keys at the first reach places, into a table of zeros.
-fn place_keys(state: PackedState, reach: usize, table: &mut [u8])
-    requires { ⌜ Window state × (reach ≤ length (keysOf state)) × Placed (now table) reach [] ⌝ }
-    ensures { λ r. ⌜ Placed (now (table .exit)) 0 (take reach (keysOf state)) ⌝ }
+fn place_keys(w: &[u8], reach: usize, table: &mut [u8])
+    requires { ⌜ Keyed (now w) × (reach ≤ length (now w)) × Placed (now table) reach [] ⌝ }
+    ensures { λ r. ⌜ Placed (now (table .exit)) 0 (take reach (now (w .entry))) ⌝ }
 {
     let mut i = reach;
     while 0 < i {
-        let key = state.get(i - 1);
+        let key = w[i - 1];
         table[key as usize] = i as u8;
         i -= 1;
     }
@@ -147,9 +147,9 @@ fn place_at(table: &[u8], key: u8) -> usize
 }
 
 // Whether the Swap at a depth is offered.
-fn swap_test(state: PackedState, dup_max: usize, start: usize, last: usize, d: usize) -> bool
-    requires { ⌜ Window state × (d < length (keysOf state)) ⌝ }
-    ensures { λ r. ⌜ r ≡ swapOffered (keysOf state) «dup_max» start last d ⌝ }
+fn swap_test(w: &[u8], dup_max: usize, start: usize, last: usize, d: usize) -> bool
+    requires { ⌜ d < length (now w) ⌝ }
+    ensures { λ r. ⌜ r ≡ swapOffered (now (w .entry)) «dup_max» start last d ⌝ }
 {
     if d == 0 {
         return false;
@@ -157,7 +157,7 @@ fn swap_test(state: PackedState, dup_max: usize, start: usize, last: usize, d: u
     if d == last {
         return false;
     }
-    if state.get(0) == state.get(d) {
+    if w[0] == w[d] {
         return false;
     }
     if start <= d {
@@ -178,18 +178,11 @@ fn goal_zero(kinds: &[u8], goal: &[u8], key: u8) -> bool
 }
 
 // Whether the Dup at a position is offered, by the table of first places.
-fn dup_test(
-    table: &[u8],
-    state: PackedState,
-    reach: usize,
-    kinds: &[u8],
-    goal: &[u8],
-    p: usize,
-) -> bool
-    requires { ⌜ Window state × (length (now kinds) ≡ 64) × (reach ≤ length (keysOf state)) × (p < reach) × Placed (now table) 0 (take reach (keysOf state)) ⌝ }
-    ensures { λ r. ⌜ r ≡ dupOffered (now (kinds .entry)) (now (goal .entry)) (keysOf state) p ⌝ }
+fn dup_test(table: &[u8], w: &[u8], reach: usize, kinds: &[u8], goal: &[u8], p: usize) -> bool
+    requires { ⌜ Keyed (now w) × (length (now kinds) ≡ 64) × (reach ≤ length (now w)) × (p < reach) × Placed (now table) 0 (take reach (now w)) ⌝ }
+    ensures { λ r. ⌜ r ≡ dupOffered (now (kinds .entry)) (now (goal .entry)) (now (w .entry)) p ⌝ }
 {
-    let key = state.get(p);
+    let key = w[p];
     let place = place_at(table, key);
     if place == p + 1 {
         return !goal_zero(kinds, goal, key);
@@ -198,11 +191,11 @@ fn dup_test(
 }
 
 // Whether the Dup at a position is of the key and costs no more than its push.
-fn dup_serves(state: PackedState, prices: &[u32], key: u8, p: usize) -> bool
-    requires { ⌜ Window state × (p < length (keysOf state)) ⌝ }
-    ensures { λ r. ⌜ r ≡ dupServes (now (prices .entry)) (keysOf state) key p ⌝ }
+fn dup_serves(w: &[u8], prices: &[u32], key: u8, p: usize) -> bool
+    requires { ⌜ Keyed (now w) × (p < length (now w)) ⌝ }
+    ensures { λ r. ⌜ r ≡ dupServes (now (prices .entry)) (now (w .entry)) key p ⌝ }
 {
-    if state.get(p) == key {
+    if w[p] == key {
         let dup = costs::price_of(prices, Decoded::Known(Step::Dup(p as u8)));
         let push = costs::price_of(prices, Decoded::Known(Step::PushImm(key)));
         return dup.no_more(push);
@@ -211,14 +204,14 @@ fn dup_serves(state: PackedState, prices: &[u32], key: u8, p: usize) -> bool
 }
 
 // Whether the push of a key is not cheaper than its cheapest reachable Dup.
-fn is_dominated(state: PackedState, prices: &[u32], reach: usize, key: u8) -> bool
-    requires { ⌜ Window state × (reach ≤ length (keysOf state)) ⌝ }
-    ensures { λ r. ⌜ r ≡ dominated (now (prices .entry)) (keysOf state) reach key ⌝ }
+fn is_dominated(w: &[u8], prices: &[u32], reach: usize, key: u8) -> bool
+    requires { ⌜ Keyed (now w) × (reach ≤ length (now w)) ⌝ }
+    ensures { λ r. ⌜ r ≡ dominated (now (prices .entry)) (now (w .entry)) reach key ⌝ }
 {
     let mut p = reach;
     while 0 < p {
         p -= 1;
-        if dup_serves(state, prices, key, p) {
+        if dup_serves(w, prices, key, p) {
             return true;
         }
     }
@@ -226,30 +219,23 @@ fn is_dominated(state: PackedState, prices: &[u32], reach: usize, key: u8) -> bo
 }
 
 // Whether the push of a key as another immediate is offered.
-fn other_test(
-    table: &[u8],
-    state: PackedState,
-    kinds: &[u8],
-    prices: &[u32],
-    reach: usize,
-    key: u8,
-) -> bool
-    requires { ⌜ Window state × (length (now kinds) ≡ 64) × (reach ≤ length (keysOf state)) × (key < 64) × Placed (now table) 0 (take reach (keysOf state)) ⌝ }
-    ensures { λ r. ⌜ r ≡ otherOffered (now (kinds .entry)) (now (prices .entry)) (keysOf state) reach key ⌝ }
+fn other_test(table: &[u8], w: &[u8], kinds: &[u8], prices: &[u32], reach: usize, key: u8) -> bool
+    requires { ⌜ Keyed (now w) × (length (now kinds) ≡ 64) × (reach ≤ length (now w)) × (key < 64) × Placed (now table) 0 (take reach (now w)) ⌝ }
+    ensures { λ r. ⌜ r ≡ otherOffered (now (kinds .entry)) (now (prices .entry)) (now (w .entry)) reach key ⌝ }
 {
     if kind_is(kinds, 1, key) {
         if place_at(table, key) == 0 {
             return true;
         }
-        return !is_dominated(state, prices, reach, key);
+        return !is_dominated(w, prices, reach, key);
     }
     false
 }
 
 // Whether the load of a key is offered, by the table of first places.
-fn load_test(table: &[u8], state: PackedState, reach: usize, kinds: &[u8], key: u8) -> bool
-    requires { ⌜ (length (now kinds) ≡ 64) × (reach ≤ length (keysOf state)) × (key < 64) × Placed (now table) 0 (take reach (keysOf state)) ⌝ }
-    ensures { λ r. ⌜ r ≡ loadOffered (now (kinds .entry)) (keysOf state) reach key ⌝ }
+fn load_test(table: &[u8], w: &[u8], reach: usize, kinds: &[u8], key: u8) -> bool
+    requires { ⌜ (length (now kinds) ≡ 64) × (reach ≤ length (now w)) × (key < 64) × Placed (now table) 0 (take reach (now w)) ⌝ }
+    ensures { λ r. ⌜ r ≡ loadOffered (now (kinds .entry)) (now (w .entry)) reach key ⌝ }
 {
     if kind_is(kinds, 0, key) {
         return place_at(table, key) == 0;
@@ -273,19 +259,19 @@ fn offered(out: &mut [u16], n: usize, step: Step, test: bool) -> usize
 fn with_swaps(
     out: &mut [u16],
     at: usize,
-    state: PackedState,
+    w: &[u8],
     limit: usize,
     dup_max: usize,
     start: usize,
     last: usize,
 ) -> usize
-    requires { ⌜ Window state × (limit ≤ length (keysOf state)) × Roomy (now out) at (upTo (swapAt (keysOf state) «dup_max» start last) limit) ⌝ }
-    ensures { λ r. ⌜ Added (steps (now (out .entry)) at) (steps (now (out .exit)) r) (upTo (swapAt (keysOf state) «dup_max» start last) limit) ⌝ }
+    requires { ⌜ Keyed (now w) × (limit ≤ length (now w)) × Roomy (now out) at (upTo (swapAt (now w) «dup_max» start last) limit) ⌝ }
+    ensures { λ r. ⌜ Added (steps (now (out .entry)) at) (steps (now (out .exit)) r) (upTo (swapAt (now (w .entry)) «dup_max» start last) limit) ⌝ }
 {
     let mut n = at;
     let mut d = 0;
     while d < limit {
-        let test = swap_test(state, dup_max, start, last, d);
+        let test = swap_test(w, dup_max, start, last, d);
         n = offered(out, n, Step::Swap(d as u8), test);
         d += 1;
     }
@@ -296,19 +282,19 @@ fn with_swaps(
 fn with_dups(
     out: &mut [u16],
     at: usize,
-    state: PackedState,
+    w: &[u8],
     reach: usize,
     table: &[u8],
     kinds: &[u8],
     goal: &[u8],
 ) -> usize
-    requires { ⌜ Pushing state (now kinds) (now goal) × (reach ≤ length (keysOf state)) × Placed (now table) 0 (take reach (keysOf state)) × Roomy (now out) at (dups (now kinds) (now goal) (keysOf state) reach) ⌝ }
-    ensures { λ r. ⌜ Added (steps (now (out .entry)) at) (steps (now (out .exit)) r) (dups (now (kinds .entry)) (now (goal .entry)) (keysOf state) reach) ⌝ }
+    requires { ⌜ Keyed (now w) × (length (now kinds) ≡ 64) × (reach ≤ length (now w)) × Placed (now table) 0 (take reach (now w)) × Roomy (now out) at (dups (now kinds) (now goal) (now w) reach) ⌝ }
+    ensures { λ r. ⌜ Added (steps (now (out .entry)) at) (steps (now (out .exit)) r) (dups (now (kinds .entry)) (now (goal .entry)) (now (w .entry)) reach) ⌝ }
 {
     let mut n = at;
     let mut p = 0;
     while p < reach {
-        let test = dup_test(table, state, reach, kinds, goal, p);
+        let test = dup_test(table, w, reach, kinds, goal, p);
         n = offered(out, n, Step::Dup(p as u8), test);
         p += 1;
     }
@@ -316,8 +302,8 @@ fn with_dups(
 }
 
 // The push of zero, if it is among the keys.
-fn with_zeros(out: &mut [u16], at: usize, state: PackedState, kinds: &[u8], keys: &[u8]) -> usize
-    requires { ⌜ Pushing state (now kinds) (now keys) × Roomy (now out) at (zeros (now kinds) (now keys)) ⌝ }
+fn with_zeros(out: &mut [u16], at: usize, kinds: &[u8], keys: &[u8]) -> usize
+    requires { ⌜ Pushing (now kinds) (now keys) × Roomy (now out) at (zeros (now kinds) (now keys)) ⌝ }
     ensures { λ r. ⌜ Added (steps (now (out .entry)) at) (steps (now (out .exit)) r) (zeros (now (kinds .entry)) (now (keys .entry))) ⌝ }
 {
     let mut n = at;
@@ -335,21 +321,21 @@ fn with_zeros(out: &mut [u16], at: usize, state: PackedState, kinds: &[u8], keys
 fn with_others(
     out: &mut [u16],
     at: usize,
-    state: PackedState,
+    w: &[u8],
     reach: usize,
     table: &[u8],
     kinds: &[u8],
     keys: &[u8],
     prices: &[u32],
 ) -> usize
-    requires { ⌜ Pushing state (now kinds) (now keys) × (reach ≤ length (keysOf state)) × Placed (now table) 0 (take reach (keysOf state)) × Roomy (now out) at (others (now kinds) (now prices) (now keys) (keysOf state) reach) ⌝ }
-    ensures { λ r. ⌜ Added (steps (now (out .entry)) at) (steps (now (out .exit)) r) (others (now (kinds .entry)) (now (prices .entry)) (now (keys .entry)) (keysOf state) reach) ⌝ }
+    requires { ⌜ Pushing (now kinds) (now keys) × Keyed (now w) × (reach ≤ length (now w)) × Placed (now table) 0 (take reach (now w)) × Roomy (now out) at (others (now kinds) (now prices) (now keys) (now w) reach) ⌝ }
+    ensures { λ r. ⌜ Added (steps (now (out .entry)) at) (steps (now (out .exit)) r) (others (now (kinds .entry)) (now (prices .entry)) (now (keys .entry)) (now (w .entry)) reach) ⌝ }
 {
     let mut n = at;
     let mut i = 0;
     while i < keys.len() {
         let key = keys[i];
-        let test = other_test(table, state, kinds, prices, reach, key);
+        let test = other_test(table, w, kinds, prices, reach, key);
         n = offered(out, n, Step::PushImm(key), test);
         i += 1;
     }
@@ -360,20 +346,20 @@ fn with_others(
 fn with_loads(
     out: &mut [u16],
     at: usize,
-    state: PackedState,
+    w: &[u8],
     reach: usize,
     table: &[u8],
     kinds: &[u8],
     keys: &[u8],
 ) -> usize
-    requires { ⌜ Pushing state (now kinds) (now keys) × (reach ≤ length (keysOf state)) × Placed (now table) 0 (take reach (keysOf state)) × Roomy (now out) at (loads (now kinds) (now keys) (keysOf state) reach) ⌝ }
-    ensures { λ r. ⌜ Added (steps (now (out .entry)) at) (steps (now (out .exit)) r) (loads (now (kinds .entry)) (now (keys .entry)) (keysOf state) reach) ⌝ }
+    requires { ⌜ Pushing (now kinds) (now keys) × (reach ≤ length (now w)) × Placed (now table) 0 (take reach (now w)) × Roomy (now out) at (loads (now kinds) (now keys) (now w) reach) ⌝ }
+    ensures { λ r. ⌜ Added (steps (now (out .entry)) at) (steps (now (out .exit)) r) (loads (now (kinds .entry)) (now (keys .entry)) (now (w .entry)) reach) ⌝ }
 {
     let mut n = at;
     let mut i = 0;
     while i < keys.len() {
         let key = keys[i];
-        let test = load_test(table, state, reach, kinds, key);
+        let test = load_test(table, w, reach, kinds, key);
         n = offered(out, n, Step::LoadVal(key), test);
         i += 1;
     }
@@ -391,17 +377,16 @@ fn may_grow(len: usize, max_len: usize) -> bool
 fn grown_zeros(
     out: &mut [u16],
     at: usize,
-    state: PackedState,
     len: usize,
     max_len: usize,
     kinds: &[u8],
     keys: &[u8],
 ) -> usize
-    requires { ⌜ Expanding state (now kinds) (now keys) len «max_len» × Roomy (now out) at (grown «max_len» len (zeros (now kinds) (now keys))) ⌝ }
+    requires { ⌜ Pushing (now kinds) (now keys) × Roomy (now out) at (grown «max_len» len (zeros (now kinds) (now keys))) ⌝ }
     ensures { λ r. ⌜ Added (steps (now (out .entry)) at) (steps (now (out .exit)) r) (grown «max_len» len (zeros (now (kinds .entry)) (now (keys .entry)))) ⌝ }
 {
     if may_grow(len, max_len) {
-        return with_zeros(out, at, state, kinds, keys);
+        return with_zeros(out, at, kinds, keys);
     }
     at
 }
@@ -410,7 +395,7 @@ fn grown_zeros(
 fn grown_rest(
     out: &mut [u16],
     at: usize,
-    state: PackedState,
+    w: &[u8],
     len: usize,
     max_len: usize,
     reach: usize,
@@ -419,17 +404,67 @@ fn grown_rest(
     keys: &[u8],
     prices: &[u32],
 ) -> usize
-    requires { ⌜ Expanding state (now kinds) (now keys) len «max_len» × KeysFit (now goal) × (reach ≤ len) × Roomy (now out) at (grown «max_len» len (dups (now kinds) (now goal) (keysOf state) reach ++ (others (now kinds) (now prices) (now keys) (keysOf state) reach ++ loads (now kinds) (now keys) (keysOf state) reach))) ⌝ }
-    ensures { λ r. ⌜ Added (steps (now (out .entry)) at) (steps (now (out .exit)) r) (grown «max_len» len (dups (now (kinds .entry)) (now (goal .entry)) (keysOf state) reach ++ (others (now (kinds .entry)) (now (prices .entry)) (now (keys .entry)) (keysOf state) reach ++ loads (now (kinds .entry)) (now (keys .entry)) (keysOf state) reach))) ⌝ }
+    requires { ⌜ Pushing (now kinds) (now keys) × Keyed (now w) × (reach ≤ length (now w)) × Roomy (now out) at (grown «max_len» len (dups (now kinds) (now goal) (now w) reach ++ (others (now kinds) (now prices) (now keys) (now w) reach ++ loads (now kinds) (now keys) (now w) reach))) ⌝ }
+    ensures { λ r. ⌜ Added (steps (now (out .entry)) at) (steps (now (out .exit)) r) (grown «max_len» len (dups (now (kinds .entry)) (now (goal .entry)) (now (w .entry)) reach ++ (others (now (kinds .entry)) (now (prices .entry)) (now (keys .entry)) (now (w .entry)) reach ++ loads (now (kinds .entry)) (now (keys .entry)) (now (w .entry)) reach))) ⌝ }
 {
     if may_grow(len, max_len) {
         let mut table = [0u8; 64];
-        place_keys(state, reach, &mut table);
-        let a = with_dups(out, at, state, reach, &table, kinds, goal);
-        let b = with_others(out, a, state, reach, &table, kinds, keys, prices);
-        return with_loads(out, b, state, reach, &table, kinds, keys);
+        place_keys(w, reach, &mut table);
+        let a = with_dups(out, at, w, reach, &table, kinds, goal);
+        let b = with_others(out, a, w, reach, &table, kinds, keys, prices);
+        return with_loads(out, b, w, reach, &table, kinds, keys);
     }
     at
+}
+
+// The keys of a state, in order, into the first places of a list.
+fn write_keys(state: PackedState, n: usize, out: &mut [u8])
+    requires { ⌜ Window state × (n ≡ length (keysOf state)) × (n ≤ length (now out)) ⌝ }
+    ensures { λ _. ⌜ take n (now (out .exit)) ≡ keysOf state ⌝ }
+{
+    let mut i = 0;
+    while i < n {
+        out[i] = state.get(i);
+        i += 1;
+    }
+}
+
+// The steps to the successors of a window, as expand gives them, by the list of its keys.
+fn expand_keys(
+    w: &[u8],
+    goal: &[u8],
+    keys: &[u8],
+    last: usize,
+    cfg: SearchCfg,
+    kinds: &[u8],
+    prices: &[u32],
+    out: &mut [u16],
+) -> usize
+    requires { ⌜ Keyed (now w) × Expanding (asked cfg (now kinds) (now prices) (now goal)) (now keys) × (50 ≤ length (now out)) ⌝ }
+    ensures { λ r. ⌜ Expanded (asked cfg (now (kinds .entry)) (now (prices .entry)) (now (goal .entry))) (now (w .entry)) last (now (out .entry)) (now (out .exit)) r ⌝ }
+{
+    let dup_max = cfg.dup_max;
+    let swap_max = cfg.swap_max;
+    let max_len = cfg.max_len;
+    let len = w.len();
+    let start = suffix_start(w, goal);
+    let reach = least(len, dup_max);
+    let limit = least(len, swap_max);
+    let popped = offered(out, 0, Step::Pop, 0 < len);
+    let pushed = grown_zeros(out, popped, len, max_len, kinds, keys);
+    let swapped = with_swaps(out, pushed, w, limit, dup_max, start, last);
+    grown_rest(
+        out,
+        swapped,
+        w,
+        len,
+        max_len,
+        reach,
+        kinds,
+        goal,
+        keys,
+        prices,
+    )
 }
 
 // The steps to the successors of a state, by their codes, in the first places of out; the places in use. The keys are the goal's in order,
@@ -447,26 +482,8 @@ pub fn expand(
     requires { ⌜ Expandable state (asked cfg (now kinds) (now prices) (now goal)) (now keys) × (50 ≤ length (now out)) ⌝ }
     ensures { λ r. ⌜ Expanded (asked cfg (now (kinds .entry)) (now (prices .entry)) (now (goal .entry))) (keysOf state) last (now (out .entry)) (now (out .exit)) r ⌝ }
 {
-    let dup_max = cfg.dup_max;
-    let swap_max = cfg.swap_max;
-    let max_len = cfg.max_len;
     let len = state.len();
-    let start = suffix_start(state, len, goal);
-    let reach = least(len, dup_max);
-    let limit = least(len, swap_max);
-    let popped = offered(out, 0, Step::Pop, 0 < len);
-    let pushed = grown_zeros(out, popped, state, len, max_len, kinds, keys);
-    let swapped = with_swaps(out, pushed, state, limit, dup_max, start, last);
-    grown_rest(
-        out,
-        swapped,
-        state,
-        len,
-        max_len,
-        reach,
-        kinds,
-        goal,
-        keys,
-        prices,
-    )
+    let mut held = [0u8; 21];
+    write_keys(state, len, &mut held);
+    expand_keys(&held[..len], goal, keys, last, cfg, kinds, prices, out)
 }

@@ -23,6 +23,9 @@ part-count-of-end c = omega (arith, written-length _ _ _ (c .before .before .wri
 count-of-requires : tie.Need-count-of-requires
 count-of-requires c κs = search needs
 
+cast-result : tie.Need-cast-result
+cast-result c = search needs
+
 returns : tie.Need-returns
 returns c = rw (written-take _ _ _ (c .before .before .before .before .write .ensures)) at (c .count-of .ensures)
 
@@ -36,4 +39,5 @@ count-key-spec =
     part-count-of-start
     part-count-of-end
     count-of-requires
+    cast-result
     returns)

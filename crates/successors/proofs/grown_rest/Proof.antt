@@ -1,10 +1,7 @@
 use mathlib.Core.Path.{sym, _∙_}
-use native.Mathlib.Omega.{arith}
 use mathlib.Core.List.{_++_}
-use Rattle.window.specs.Keys.{keysOf}
 use Rattle.successors.specs.Successors.{dups, others, loads}
 use Rattle.successors.specs.Places.{placed-none}
-use Rattle.successors.specs.Whole.{pushing}
 use Rattle.successors.specs.Listed.{room-grown, room-first, room-second, room-third, added-grown, added-full, added-three}
 use borrow.Author.Needs.{needs}
 use Rattle.successors.proofs.grown_rest.Statement.{statement}
@@ -24,47 +21,44 @@ slice-aggregate-place-keys : tie.Need-slice-aggregate-place-keys
 slice-aggregate-place-keys c = search needs
 
 place-keys-requires : tie.Need-place-keys-requires
-place-keys-requires c κs = let s = c .before .before .before .before .before .before .before .before in
-    (s .pre .0 .window, omega (arith, s .pre .2, s .pre .0 .size), placed-none _)
+place-keys-requires c κs = let s = c .before .before .before .before .before .before .before .before .before in
+    (s .pre .1, s .pre .2, placed-none _)
 
 slice-aggregate-with-dups : tie.Need-slice-aggregate-with-dups
 slice-aggregate-with-dups c = search needs
 
 with-dups-requires : tie.Need-with-dups-requires
-with-dups-requires c κs = let s = c .before .before .before .before .before .before .before .before .before .before .before .before in
-    let ds = dups (s .args .kinds .now) (s .args .goal .now) (keysOf (s .args .state)) (s .args .reach) in
-    let os = others (s .args .kinds .now) (s .args .prices .now) (s .args .keys .now) (keysOf (s .args .state)) (s .args .reach) in
-    let ls = loads (s .args .kinds .now) (s .args .keys .now) (keysOf (s .args .state)) (s .args .reach) in
+with-dups-requires c κs = let s = c .before .before .before .before .before .before .before .before .before .before .before .before .before in
+    let ds = dups (s .args .kinds .now) (s .args .goal .now) (s .args .w .now) (s .args .reach) in
+    let os = others (s .args .kinds .now) (s .args .prices .now) (s .args .keys .now) (s .args .w .now) (s .args .reach) in
+    let ls = loads (s .args .kinds .now) (s .args .keys .now) (s .args .w .now) (s .args .reach) in
     let t = (sym (c .before .before .before .before .before .before .may-grow .ensures) ∙ c .before .before .before .before .before .if1 .taken) in
-    let p = pushing _ _ _ _ _ (s .pre .0) t in
     let h = room-grown (s .args .out .now) (s .args .at) (s .args .max-len) (s .args .len) (ds ++ (os ++ ls)) t (s .pre .3) in
-    (record { window = p .window; kinds = p .kinds; keys = s .pre .1; room = p .room }, omega (arith, s .pre .2, s .pre .0 .size), c .before .before .before .place-keys .ensures, room-first (s .args .out .now) (s .args .at) ds os ls h)
+    (s .pre .1, s .pre .0 .kinds, s .pre .2, c .before .before .before .place-keys .ensures, room-first (s .args .out .now) (s .args .at) ds os ls h)
 
 slice-aggregate-with-others : tie.Need-slice-aggregate-with-others
 slice-aggregate-with-others c = search needs
 
 with-others-requires : tie.Need-with-others-requires
-with-others-requires c κs = let s = c .before .before .before .before .before .before .before .before .before .before .before .before .before .before .before .before .before in
-    let ds = dups (s .args .kinds .now) (s .args .goal .now) (keysOf (s .args .state)) (s .args .reach) in
-    let os = others (s .args .kinds .now) (s .args .prices .now) (s .args .keys .now) (keysOf (s .args .state)) (s .args .reach) in
-    let ls = loads (s .args .kinds .now) (s .args .keys .now) (keysOf (s .args .state)) (s .args .reach) in
+with-others-requires c κs = let s = c .before .before .before .before .before .before .before .before .before .before .before .before .before .before .before .before .before .before in
+    let ds = dups (s .args .kinds .now) (s .args .goal .now) (s .args .w .now) (s .args .reach) in
+    let os = others (s .args .kinds .now) (s .args .prices .now) (s .args .keys .now) (s .args .w .now) (s .args .reach) in
+    let ls = loads (s .args .kinds .now) (s .args .keys .now) (s .args .w .now) (s .args .reach) in
     let t = (sym (c .before .before .before .before .before .before .before .before .before .before .before .may-grow .ensures) ∙ c .before .before .before .before .before .before .before .before .before .before .if1 .taken) in
-    let p = pushing _ _ _ _ _ (s .pre .0) t in
     let h = room-grown (s .args .out .now) (s .args .at) (s .args .max-len) (s .args .len) (ds ++ (os ++ ls)) t (s .pre .3) in
-    (p, omega (arith, s .pre .2, s .pre .0 .size), c .before .before .before .before .before .before .before .before .place-keys .ensures, room-second (s .args .out .now) (s .args .at) ds os ls h _ _ (c .before .before .before .before .with-dups .ensures))
+    (s .pre .0, s .pre .1, s .pre .2, c .before .before .before .before .before .before .before .before .place-keys .ensures, room-second (s .args .out .now) (s .args .at) ds os ls h _ _ (c .before .before .before .before .with-dups .ensures))
 
 slice-aggregate-with-loads : tie.Need-slice-aggregate-with-loads
 slice-aggregate-with-loads c = search needs
 
 with-loads-requires : tie.Need-with-loads-requires
-with-loads-requires c κs = let s = c .before .before .before .before .before .before .before .before .before .before .before .before .before .before .before .before .before .before .before .before .before .before in
-    let ds = dups (s .args .kinds .now) (s .args .goal .now) (keysOf (s .args .state)) (s .args .reach) in
-    let os = others (s .args .kinds .now) (s .args .prices .now) (s .args .keys .now) (keysOf (s .args .state)) (s .args .reach) in
-    let ls = loads (s .args .kinds .now) (s .args .keys .now) (keysOf (s .args .state)) (s .args .reach) in
+with-loads-requires c κs = let s = c .before .before .before .before .before .before .before .before .before .before .before .before .before .before .before .before .before .before .before .before .before .before .before in
+    let ds = dups (s .args .kinds .now) (s .args .goal .now) (s .args .w .now) (s .args .reach) in
+    let os = others (s .args .kinds .now) (s .args .prices .now) (s .args .keys .now) (s .args .w .now) (s .args .reach) in
+    let ls = loads (s .args .kinds .now) (s .args .keys .now) (s .args .w .now) (s .args .reach) in
     let t = (sym (c .before .before .before .before .before .before .before .before .before .before .before .before .before .before .before .before .may-grow .ensures) ∙ c .before .before .before .before .before .before .before .before .before .before .before .before .before .before .before .if1 .taken) in
-    let p = pushing _ _ _ _ _ (s .pre .0) t in
     let h = room-grown (s .args .out .now) (s .args .at) (s .args .max-len) (s .args .len) (ds ++ (os ++ ls)) t (s .pre .3) in
-    (p, omega (arith, s .pre .2, s .pre .0 .size), c .before .before .before .before .before .before .before .before .before .before .before .before .before .place-keys .ensures, room-third (s .args .out .now) (s .args .at) ds os ls h _ _ _ _ (c .before .before .before .before .before .before .before .before .before .with-dups .ensures) (c .before .before .before .before .with-others .ensures))
+    (s .pre .0, s .pre .2, c .before .before .before .before .before .before .before .before .before .before .before .before .before .place-keys .ensures, room-third (s .args .out .now) (s .args .at) ds os ls h _ _ _ _ (c .before .before .before .before .before .before .before .before .before .with-dups .ensures) (c .before .before .before .before .with-others .ensures))
 
 same-length : tie.Need-same-length
 same-length c = search needs

@@ -1,5 +1,4 @@
 use mathlib.Core.Path.{sym, _∙_}
-use Rattle.successors.specs.Whole.{pushing}
 use Rattle.successors.specs.Listed.{room-grown, added-grown, added-full}
 use borrow.Author.Needs.{needs}
 use Rattle.successors.proofs.grown_zeros.Statement.{statement}
@@ -14,7 +13,7 @@ may-grow-requires c κs = search needs
 
 with-zeros-requires : tie.Need-with-zeros-requires
 with-zeros-requires c κs = let s = c .before .before .before .before .before .before in
-    (pushing _ _ _ _ _ (s .pre .0) (sym (c .before .before .may-grow .ensures) ∙ c .before .if1 .taken), room-grown _ _ _ _ _ (sym (c .before .before .may-grow .ensures) ∙ c .before .if1 .taken) (s .pre .1))
+    (s .pre .0, room-grown _ _ _ _ _ (sym (c .before .before .may-grow .ensures) ∙ c .before .if1 .taken) (s .pre .1))
 
 same-length : tie.Need-same-length
 same-length c = search needs

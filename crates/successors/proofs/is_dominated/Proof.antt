@@ -1,12 +1,9 @@
 use Rattle.successors.specs.Tests.{some-here, some-on, some-none}
 use Rattle.successors.specs.Successors.{dupServes, dominated}
-use Rattle.window.specs.Keys.{keysOf}
 use Rattle.successors.specs.Parts.{someBelow}
 use native.Mathlib.Omega.{arith}
-use lib.ListN.{length, drop, take}
 use Prim.Native.Nat.{_≤_, _-_}
-use mathlib.Core.Path.{_≡_, refl, sym, _∙_}
-use Rattle.successors.specs.Tests.{some-found, some-passed}
+use mathlib.Core.Path.{_≡_}
 use borrow.Author.Needs.{needs}
 use Rattle.successors.proofs.is_dominated.Statement.{statement}
 use Rattle.successors.proofs.is_dominated.Tie as tie
@@ -15,10 +12,10 @@ use Rattle.successors.proofs.is_dominated.Lts as lts
 use Rattle.successors.proofs.dup_serves.Reads as dup-serves-reads
 
 abbrev Inv-loop : tie.InvT-loop
-Inv-loop state prices reach key p₀ p = (p ≤ reach) × (someBelow (dupServes prices (keysOf state) key) reach ≡ someBelow (dupServes prices (keysOf state) key) p)
+Inv-loop w prices reach key p₀ p = (p ≤ reach) × (someBelow (dupServes prices w key) reach ≡ someBelow (dupServes prices w key) p)
 
 abbrev μ-loop : tie.MeasureT-loop
-μ-loop state prices reach key p₀ p = p
+μ-loop w prices reach key p₀ p = p
 
 loop-holds : tie.Need-loop-holds Inv-loop μ-loop
 loop-holds c = search needs
@@ -27,7 +24,8 @@ sub-p : tie.Need-sub-p Inv-loop μ-loop
 sub-p c = search needs
 
 dup-serves-requires : tie.Need-dup-serves-requires Inv-loop μ-loop
-dup-serves-requires c κs = (c .before .before .before .pre .0, omega (arith, c .before .before .before .pre .1, c .before .loop .inv .0))
+dup-serves-requires c κs = let s = c .before .before .before .before in
+    (s .pre .0, omega (arith, s .pre .1, c .before .loop .inv .0))
 
 returns : tie.Need-returns Inv-loop μ-loop
 unfolding dominated

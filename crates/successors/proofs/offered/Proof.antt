@@ -1,8 +1,5 @@
-use Rattle.window.specs.Keys.{keysOf, keys-length}
-use lib.ListN.{length, getD, take, drop}
-use Prim.Native.Nat.{ℕ, _≤_, _<_, _-_, _+_}
-use native.Mathlib.Omega.{arith}
-use mathlib.Core.Path.{_≡_, refl, sym, ap, _∙_}
+use Prim.Native.Nat.{_-_}
+use mathlib.Core.Path.{refl}
 use Rattle.successors.specs.Listed.{offer-room, offer-count, added-one, added-skip}
 use borrow.Author.Needs.{needs}
 use Rattle.successors.proofs.offered.Statement.{statement}

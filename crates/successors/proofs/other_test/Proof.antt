@@ -1,10 +1,8 @@
-use mathlib.Core.Bool.{not, true, false}
-use Rattle.successors.specs.Successors.{otherOffered, dominated}
-use Rattle.window.specs.Keys.{keysOf, keys-length}
-use lib.ListN.{length, getD, take, drop}
-use Prim.Native.Nat.{ℕ, _≤_, _<_, _-_, _+_}
+use mathlib.Core.Bool.{not, true}
+use Rattle.successors.specs.Successors.{otherOffered}
+use Prim.Native.Nat.{_-_}
 use native.Mathlib.Omega.{arith}
-use mathlib.Core.Path.{_≡_, refl, sym, ap, _∙_}
+use mathlib.Core.Path.{sym, ap, _∙_}
 use Rattle.successors.specs.Places.{alone}
 use Rattle.successors.specs.Tests.{both-by, both-not}
 use borrow.Author.Needs.{needs}
@@ -20,11 +18,11 @@ kind-is-requires : tie.Need-kind-is-requires
 kind-is-requires c κs = search needs
 
 place-at-requires : tie.Need-place-at-requires
-place-at-requires c κs = let s = c .before .before .before .before .before in omega (arith, s .pre .3, s .pre .4 .size)
+place-at-requires c κs = let s = c .before .before .before .before .before .before in omega (arith, s .pre .3, s .pre .4 .size)
 
 returns : tie.Need-returns
 unfolding otherOffered
-returns c = let s = c .before .before .before .before .before .before .before in
+returns c = let s = c .before .before .before .before .before .before .before .before in
     both-by _ _ true (sym (c .before .before .before .kind-is .ensures) ∙ c .before .before .if1 .taken) (sym (ap not (alone _ _ _ _ _ (s .pre .4) (s .pre .2) (s .pre .3) (sym (c .before .place-at .ensures) ∙ c .if2 .taken))))
 
 is-dominated-requires : tie.Need-is-dominated-requires

@@ -1,8 +1,5 @@
-use Rattle.window.specs.Keys.{keysOf, keys-length}
-use lib.ListN.{length, getD, take, drop}
-use Prim.Native.Nat.{ℕ, _≤_, _<_, _-_, _+_}
+use Prim.Native.Nat.{_-_}
 use native.Mathlib.Omega.{arith}
-use mathlib.Core.Path.{_≡_, refl, sym, ap, _∙_}
 use borrow.Author.Needs.{needs}
 use Rattle.successors.proofs.place_at.Statement.{statement}
 use Rattle.successors.proofs.place_at.Tie as tie

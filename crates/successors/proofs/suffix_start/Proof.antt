@@ -1,40 +1,28 @@
-use Prim.Native.Nat.{_<_, min}
-use Rattle.window.specs.Keys.{keysOf}
-use Rattle.successors.specs.Successors.{common}
-use lib.ListN.{length, drop}
-use mathlib.Core.List.{reverse}
-use Prim.Native.Nat.{_+_, _≤_, _-_}
-use Rattle.successors.specs.Suffix.{differs-at, same-at, stops-at}
 use native.Mathlib.Omega.{arith}
-use mathlib.Core.Path.{_≡_, refl, sym, ap, _∙_}
+use Prim.Native.Nat.{_+_, _-_, _≤_, _<_, min}
+use mathlib.Core.List.{reverse}
+use mathlib.Core.Path.{_≡_}
+use lib.ListN.{length, drop}
+use Rattle.successors.specs.Successors.{common}
+use Rattle.successors.specs.Suffix.{common-differs, common-same, common-stops}
 use borrow.Author.Needs.{needs}
 use Rattle.successors.proofs.suffix_start.Statement.{statement}
 use Rattle.successors.proofs.suffix_start.Tie as tie
 use Rattle.successors.proofs.suffix_start.Reads as reads
 use Rattle.successors.proofs.suffix_start.Lts as lts
 use Rattle.successors.proofs.least.Reads as least-reads
-use Rattle.window.proofs.PackedState.get.Reads as get-reads
 
 abbrev Inv-loop : tie.InvT-loop
-Inv-loop state n goal m limit k₀ k = (k ≤ limit) × (common (reverse (keysOf state)) (reverse goal) ≡ k + common (drop k (reverse (keysOf state))) (drop k (reverse goal)))
+Inv-loop w goal n m limit k₀ k = (k ≤ limit) × (common (reverse w) (reverse goal) ≡ k + common (drop k (reverse w)) (drop k (reverse goal)))
 
 abbrev μ-loop : tie.MeasureT-loop
-μ-loop state n goal m limit k₀ k = limit - k
+μ-loop w goal n m limit k₀ k = limit - k
 
 least-requires : tie.Need-least-requires Inv-loop μ-loop
 least-requires c κs = search needs
 
 loop-holds : tie.Need-loop-holds Inv-loop μ-loop
 loop-holds c = search needs
-
-sub-get : tie.Need-sub-get Inv-loop μ-loop
-sub-get c = search needs
-
-sub-get-2 : tie.Need-sub-get-2 Inv-loop μ-loop
-sub-get-2 c = search needs
-
-get-requires : tie.Need-get-requires Inv-loop μ-loop
-get-requires c κs = (_, c .before .before .before .before .pre .0, omega (arith, c .before .before .before .before .pre .1, c .before .before .least .ensures))
 
 sub-if1 : tie.Need-sub-if1 Inv-loop μ-loop
 sub-if1 c = search needs
@@ -45,16 +33,24 @@ sub-if1-2 c = search needs
 shared-slice-read-if1 : tie.Need-shared-slice-read-if1 Inv-loop μ-loop
 shared-slice-read-if1 c = search needs
 
+sub-if1-3 : tie.Need-sub-if1-3 Inv-loop μ-loop
+sub-if1-3 c = search needs
+
+sub-if1-4 : tie.Need-sub-if1-4 Inv-loop μ-loop
+sub-if1-4 c = search needs
+
+shared-slice-read-if1-2 : tie.Need-shared-slice-read-if1-2 Inv-loop μ-loop
+shared-slice-read-if1-2 c = search needs
+
 sub-result : tie.Need-sub-result Inv-loop μ-loop
 sub-result c = search needs
 
 returns : tie.Need-returns Inv-loop μ-loop
 returns c =
-    let s = c .before .before .before .before .before .before .before in
     let l = c .before .before .before .before .loop in
-    let ge = c .before .before .get .ensures (keysOf (s .args .state)) (s .pre .0) (omega (arith, s .pre .1, c .before .before .before .before .before .least .ensures)) in
-    let b : l .k < min (s .args .n) (length (s .args .goal .now)) = omega (arith, c .before .before .before .before .before .least .ensures) in
-    differs-at (keysOf (s .args .state)) (s .args .goal .now) (s .args .n) (length (s .args .goal .now)) (l .k) _ _ (s .pre .1) refl ge refl b (c .if1 .taken) (l .inv .1)
+    let s = c .before .before .before .before .before .before .before .before .args in
+    let b : l .k < min (length (s .w .now)) (length (s .goal .now)) = omega (arith, c .before .before .before .before .before .least .ensures) in
+    common-differs (s .w .now) (s .goal .now) (l .k) b (c .if1 .taken) (l .inv .1)
 
 add-k : tie.Need-add-k Inv-loop μ-loop
 add-k c = search needs
@@ -64,20 +60,20 @@ loop-less c = search needs
 
 loop-again : tie.Need-loop-again Inv-loop μ-loop
 loop-again c =
-    let s = c .before .before .before .before .before .before .before in
     let l = c .before .before .before .before .loop in
-    let ge = c .before .before .get .ensures (keysOf (s .args .state)) (s .pre .0) (omega (arith, s .pre .1, c .before .before .before .before .before .least .ensures)) in
-    let b : l .k < min (s .args .n) (length (s .args .goal .now)) = omega (arith, c .before .before .before .before .before .least .ensures) in
-    (omega arith, same-at (keysOf (s .args .state)) (s .args .goal .now) (s .args .n) (length (s .args .goal .now)) (l .k) _ _ (s .pre .1) refl ge refl b (c .if1 .left) (l .inv .1))
+    let s = c .before .before .before .before .before .before .before .before .args in
+    let b : l .k < min (length (s .w .now)) (length (s .goal .now)) = omega (arith, c .before .before .before .before .before .least .ensures) in
+    (omega arith, common-same (s .w .now) (s .goal .now) (l .k) b (c .if1 .left) (l .inv .1))
 
 sub-result-2 : tie.Need-sub-result-2 Inv-loop μ-loop
 sub-result-2 c = search needs
 
 returns-2 : tie.Need-returns-2 Inv-loop μ-loop
 returns-2 c =
-    let s = c .before .before .before .before in
-    let b : min (s .args .n) (length (s .args .goal .now)) ≤ c .before .loop .k = omega (arith, c .before .before .least .ensures) in
-    stops-at (keysOf (s .args .state)) (s .args .goal .now) (s .args .n) (length (s .args .goal .now)) (c .before .loop .k) (s .pre .1) refl b (c .before .loop .inv .1)
+    let l = c .before .loop in
+    let s = c .before .before .before .before .before .args in
+    let b : min (length (s .w .now)) (length (s .goal .now)) ≤ l .k = omega (arith, c .before .before .least .ensures) in
+    common-stops (s .w .now) (s .goal .now) (l .k) b (l .inv .1)
 
 pub suffix-start-spec : {M : Type 1} → statement M
 suffix-start-spec =
@@ -87,12 +83,12 @@ suffix-start-spec =
     μ-loop
     least-requires
     loop-holds
-    sub-get
-    sub-get-2
-    get-requires
     sub-if1
     sub-if1-2
     shared-slice-read-if1
+    sub-if1-3
+    sub-if1-4
+    shared-slice-read-if1-2
     sub-result
     returns
     add-k

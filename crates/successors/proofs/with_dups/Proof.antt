@@ -1,11 +1,9 @@
-use Rattle.window.specs.Keys.{keysOf, keys-length}
-use lib.ListN.{length, getD, take, drop}
-use Prim.Native.Nat.{ℕ, _≤_, _<_, _-_, _+_}
+use Prim.Native.Nat.{_≤_, _-_}
 use native.Mathlib.Omega.{arith}
-use mathlib.Core.Path.{_≡_, refl, sym, ap, _∙_}
+use mathlib.Core.Path.{refl}
 use Rattle.successors.specs.Parts.{upTo}
-use Rattle.successors.specs.Successors.{swapAt, dupAt, zeroAt, otherAt, loadAt}
-use Rattle.successors.specs.Listed.{steps, Added, added-start, added-end, added-each, loop-added, loop-room, each-roomy}
+use Rattle.successors.specs.Successors.{dupAt}
+use Rattle.successors.specs.Listed.{steps, Added, added-start, added-end, loop-added, loop-room}
 use borrow.Author.Needs.{needs}
 use Rattle.successors.proofs.with_dups.Statement.{statement}
 use Rattle.successors.proofs.with_dups.Tie as tie
@@ -15,26 +13,26 @@ use Rattle.successors.proofs.dup_test.Reads as dup-test-reads
 use Rattle.successors.proofs.offered.Reads as offered-reads
 
 abbrev Inv-loop : tie.InvT-loop
-Inv-loop out₀ at state reach table kinds goal n₀ p₀ out n p = (p ≤ reach) × Added (steps out₀ at) (steps out n) (upTo (dupAt kinds goal (keysOf state)) p)
+Inv-loop out₀ at w reach table kinds goal n₀ p₀ out n p = (p ≤ reach) × Added (steps out₀ at) (steps out n) (upTo (dupAt kinds goal w) p)
 
 abbrev μ-loop : tie.MeasureT-loop
-μ-loop out₀ at state reach table kinds goal n₀ p₀ out n p = reach - p
+μ-loop out₀ at w reach table kinds goal n₀ p₀ out n p = reach - p
 
 loop-holds : tie.Need-loop-holds Inv-loop μ-loop
 loop-holds c = (omega arith, added-start _ _)
 
 dup-test-requires : tie.Need-dup-test-requires Inv-loop μ-loop
-dup-test-requires c κs = let s = c .before .before .before .before .before .before in
-    (s .pre .0 .window, s .pre .0 .kinds, s .pre .1, c .loop-test .taken, s .pre .2)
+dup-test-requires c κs = let s = c .before .before .before .before .before .before .before in
+    (s .pre .0, s .pre .1, s .pre .2, c .loop-test .taken, s .pre .3)
 
 cast-t14 : tie.Need-cast-t14 Inv-loop μ-loop
-cast-t14 c = let s = c .before .before .before .before .before .before .before .before in
-    omega (arith, s .pre .1, keys-length (s .args .state))
+cast-t14 c = let s = c .before .before .before .before .before .before .before .before .before in
+    omega (arith, s .pre .2, s .pre .0 .few)
 
 offered-requires : tie.Need-offered-requires Inv-loop μ-loop
-offered-requires c κs = let s = c .before .before .before .before .before .before .before .before in
+offered-requires c κs = let s = c .before .before .before .before .before .before .before .before .before in
     let l = c .before .before .before .loop in
-    loop-room _ _ _ _ (dupAt (s .args .kinds .now) (s .args .goal .now) (keysOf (s .args .state))) (l .p) (s .args .reach) _ _ _ (c .before .dup-test .ensures) refl (l .inv .1) (c .before .before .loop-test .taken) (s .pre .3)
+    loop-room _ _ _ _ (dupAt (s .args .kinds .now) (s .args .goal .now) (s .args .w .now)) (l .p) (s .args .reach) _ _ _ (c .before .dup-test .ensures) refl (l .inv .1) (c .before .before .loop-test .taken) (s .pre .4)
 
 add-p : tie.Need-add-p Inv-loop μ-loop
 add-p c = search needs
@@ -43,9 +41,9 @@ loop-less : tie.Need-loop-less Inv-loop μ-loop
 loop-less c = search needs
 
 loop-again : tie.Need-loop-again Inv-loop μ-loop
-loop-again c = let s = c .before .before .before .before .before .before .before .before .before .before .before in
+loop-again c = let s = c .before .before .before .before .before .before .before .before .before .before .before .before in
     let l = c .before .before .before .before .before .before .loop in
-    (omega arith, loop-added _ _ _ (dupAt (s .args .kinds .now) (s .args .goal .now) (keysOf (s .args .state))) (l .p) _ _ _ (c .before .before .before .before .dup-test .ensures) refl (l .inv .1) (c .before .before .offered .ensures))
+    (omega arith, loop-added _ _ _ (dupAt (s .args .kinds .now) (s .args .goal .now) (s .args .w .now)) (l .p) _ _ _ (c .before .before .before .before .dup-test .ensures) refl (l .inv .1) (c .before .before .offered .ensures))
 
 same-length : tie.Need-same-length Inv-loop μ-loop
 same-length c = c .before .loop .inv .1 .size

@@ -1,11 +1,10 @@
-use Rattle.window.specs.Keys.{keysOf, keys-length}
-use lib.ListN.{length, getD, take, drop}
-use Prim.Native.Nat.{ℕ, _≤_, _<_, _-_, _+_}
+use lib.ListN.{length, getD}
+use Prim.Native.Nat.{ℕ, _≤_, _-_}
 use native.Mathlib.Omega.{arith}
-use mathlib.Core.Path.{_≡_, refl, sym, ap, _∙_}
+use mathlib.Core.Path.{refl}
 use Rattle.successors.specs.Parts.{upTo}
-use Rattle.successors.specs.Successors.{swapAt, dupAt, zeroAt, otherAt, loadAt}
-use Rattle.successors.specs.Listed.{steps, Added, added-start, added-end, added-each, loop-added, loop-room, each-roomy}
+use Rattle.successors.specs.Successors.{loadAt}
+use Rattle.successors.specs.Listed.{steps, Added, added-start, added-each, loop-added, loop-room, each-roomy}
 use borrow.Author.Needs.{needs}
 use Rattle.successors.proofs.with_loads.Statement.{statement}
 use Rattle.successors.proofs.with_loads.Tie as tie
@@ -15,10 +14,10 @@ use Rattle.successors.proofs.load_test.Reads as load-test-reads
 use Rattle.successors.proofs.offered.Reads as offered-reads
 
 abbrev Inv-loop : tie.InvT-loop
-Inv-loop out₀ at state reach table kinds keys n₀ i₀ out n i = (i ≤ length keys) × Added (steps out₀ at) (steps out n) (upTo (λ (j : ℕ). loadAt kinds (keysOf state) reach (getD keys j 0)) i)
+Inv-loop out₀ at w reach table kinds keys n₀ i₀ out n i = (i ≤ length keys) × Added (steps out₀ at) (steps out n) (upTo (λ (j : ℕ). loadAt kinds w reach (getD keys j 0)) i)
 
 abbrev μ-loop : tie.MeasureT-loop
-μ-loop out₀ at state reach table kinds keys n₀ i₀ out n i = length keys - i
+μ-loop out₀ at w reach table kinds keys n₀ i₀ out n i = length keys - i
 
 loop-holds : tie.Need-loop-holds Inv-loop μ-loop
 loop-holds c = (omega arith, added-start _ _)
@@ -27,13 +26,13 @@ shared-slice-read-key : tie.Need-shared-slice-read-key Inv-loop μ-loop
 shared-slice-read-key c = search needs
 
 load-test-requires : tie.Need-load-test-requires Inv-loop μ-loop
-load-test-requires c κs = let s = c .before .before .before .before .before .before .before in
+load-test-requires c κs = let s = c .before .before .before .before .before .before .before .before in
     (s .pre .0 .kinds, s .pre .1, s .pre .0 .keys (c .before .before .loop .i) (c .before .loop-test .taken), s .pre .2)
 
 offered-requires : tie.Need-offered-requires Inv-loop μ-loop
-offered-requires c κs = let s = c .before .before .before .before .before .before .before .before .before in
+offered-requires c κs = let s = c .before .before .before .before .before .before .before .before .before .before in
     let l = c .before .before .before .before .loop in
-    loop-room _ _ _ _ (λ i. loadAt (s .args .kinds .now) (keysOf (s .args .state)) (s .args .reach) (getD (s .args .keys .now) i 0)) (l .i) (length (s .args .keys .now)) _ _ _ (c .before .load-test .ensures) refl (l .inv .1) (c .before .before .before .loop-test .taken) (each-roomy _ _ _ _ (s .pre .3))
+    loop-room _ _ _ _ (λ i. loadAt (s .args .kinds .now) (s .args .w .now) (s .args .reach) (getD (s .args .keys .now) i 0)) (l .i) (length (s .args .keys .now)) _ _ _ (c .before .load-test .ensures) refl (l .inv .1) (c .before .before .before .loop-test .taken) (each-roomy _ _ _ _ (s .pre .3))
 
 add-i : tie.Need-add-i Inv-loop μ-loop
 add-i c = search needs
@@ -42,9 +41,9 @@ loop-less : tie.Need-loop-less Inv-loop μ-loop
 loop-less c = search needs
 
 loop-again : tie.Need-loop-again Inv-loop μ-loop
-loop-again c = let s = c .before .before .before .before .before .before .before .before .before .before .before .before in
+loop-again c = let s = c .before .before .before .before .before .before .before .before .before .before .before .before .before in
     let l = c .before .before .before .before .before .before .before .loop in
-    (omega arith, loop-added _ _ _ (λ i. loadAt (s .args .kinds .now) (keysOf (s .args .state)) (s .args .reach) (getD (s .args .keys .now) i 0)) (l .i) _ _ _ (c .before .before .before .before .load-test .ensures) refl (l .inv .1) (c .before .before .offered .ensures))
+    (omega arith, loop-added _ _ _ (λ i. loadAt (s .args .kinds .now) (s .args .w .now) (s .args .reach) (getD (s .args .keys .now) i 0)) (l .i) _ _ _ (c .before .before .before .before .load-test .ensures) refl (l .inv .1) (c .before .before .offered .ensures))
 
 same-length : tie.Need-same-length Inv-loop μ-loop
 same-length c = c .before .loop .inv .1 .size

@@ -1,11 +1,9 @@
-use Rattle.window.specs.Keys.{keysOf, keys-length}
-use lib.ListN.{length, getD, take, drop}
-use Prim.Native.Nat.{ℕ, _≤_, _<_, _-_, _+_}
+use Prim.Native.Nat.{_≤_, _-_}
 use native.Mathlib.Omega.{arith}
-use mathlib.Core.Path.{_≡_, refl, sym, ap, _∙_}
+use mathlib.Core.Path.{refl}
 use Rattle.successors.specs.Parts.{upTo}
-use Rattle.successors.specs.Successors.{swapAt, dupAt, zeroAt, otherAt, loadAt}
-use Rattle.successors.specs.Listed.{steps, Added, added-start, added-end, added-each, loop-added, loop-room, each-roomy}
+use Rattle.successors.specs.Successors.{swapAt}
+use Rattle.successors.specs.Listed.{steps, Added, added-start, added-end, loop-added, loop-room}
 use borrow.Author.Needs.{needs}
 use Rattle.successors.proofs.with_swaps.Statement.{statement}
 use Rattle.successors.proofs.with_swaps.Tie as tie
@@ -15,26 +13,26 @@ use Rattle.successors.proofs.offered.Reads as offered-reads
 use Rattle.successors.proofs.swap_test.Reads as swap-test-reads
 
 abbrev Inv-loop : tie.InvT-loop
-Inv-loop out₀ at state limit dup-max start last n₀ d₀ out n d = (d ≤ limit) × Added (steps out₀ at) (steps out n) (upTo (swapAt (keysOf state) dup-max start last) d)
+Inv-loop out₀ at w limit dup-max start last n₀ d₀ out n d = (d ≤ limit) × Added (steps out₀ at) (steps out n) (upTo (swapAt w dup-max start last) d)
 
 abbrev μ-loop : tie.MeasureT-loop
-μ-loop out₀ at state limit dup-max start last n₀ d₀ out n d = limit - d
+μ-loop out₀ at w limit dup-max start last n₀ d₀ out n d = limit - d
 
 loop-holds : tie.Need-loop-holds Inv-loop μ-loop
 loop-holds c = (omega arith, added-start _ _)
 
 swap-test-requires : tie.Need-swap-test-requires Inv-loop μ-loop
-swap-test-requires c κs = let s = c .before .before .before in
-    (s .pre .0, omega (arith, s .pre .1))
+swap-test-requires c κs = let s = c .before .before .before .before in
+    omega (arith, s .pre .1)
 
 cast-t14 : tie.Need-cast-t14 Inv-loop μ-loop
-cast-t14 c = let s = c .before .before .before .before .before in
-    omega (arith, s .pre .1, keys-length (s .args .state))
+cast-t14 c = let s = c .before .before .before .before .before .before in
+    omega (arith, s .pre .1, s .pre .0 .few)
 
 offered-requires : tie.Need-offered-requires Inv-loop μ-loop
-offered-requires c κs = let s = c .before .before .before .before .before in
+offered-requires c κs = let s = c .before .before .before .before .before .before in
     let l = c .before .before .before .loop in
-    loop-room _ _ _ _ (swapAt (keysOf (s .args .state)) (s .args .dup-max) (s .args .start) (s .args .last)) (l .d) (s .args .limit) _ _ _ (c .before .swap-test .ensures) refl (l .inv .1) (c .before .before .loop-test .taken) (s .pre .2)
+    loop-room _ _ _ _ (swapAt (s .args .w .now) (s .args .dup-max) (s .args .start) (s .args .last)) (l .d) (s .args .limit) _ _ _ (c .before .swap-test .ensures) refl (l .inv .1) (c .before .before .loop-test .taken) (s .pre .2)
 
 add-d : tie.Need-add-d Inv-loop μ-loop
 add-d c = search needs
@@ -43,9 +41,9 @@ loop-less : tie.Need-loop-less Inv-loop μ-loop
 loop-less c = search needs
 
 loop-again : tie.Need-loop-again Inv-loop μ-loop
-loop-again c = let s = c .before .before .before .before .before .before .before .before in
+loop-again c = let s = c .before .before .before .before .before .before .before .before .before in
     let l = c .before .before .before .before .before .before .loop in
-    (omega arith, loop-added _ _ _ (swapAt (keysOf (s .args .state)) (s .args .dup-max) (s .args .start) (s .args .last)) (l .d) _ _ _ (c .before .before .before .before .swap-test .ensures) refl (l .inv .1) (c .before .before .offered .ensures))
+    (omega arith, loop-added _ _ _ (swapAt (s .args .w .now) (s .args .dup-max) (s .args .start) (s .args .last)) (l .d) _ _ _ (c .before .before .before .before .swap-test .ensures) refl (l .inv .1) (c .before .before .offered .ensures))
 
 same-length : tie.Need-same-length Inv-loop μ-loop
 same-length c = c .before .loop .inv .1 .size

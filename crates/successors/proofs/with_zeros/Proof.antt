@@ -1,11 +1,10 @@
-use Rattle.window.specs.Keys.{keysOf, keys-length}
-use lib.ListN.{length, getD, take, drop}
-use Prim.Native.Nat.{ℕ, _≤_, _<_, _-_, _+_}
+use lib.ListN.{length, getD}
+use Prim.Native.Nat.{ℕ, _≤_, _-_}
 use native.Mathlib.Omega.{arith}
-use mathlib.Core.Path.{_≡_, refl, sym, ap, _∙_}
+use mathlib.Core.Path.{refl}
 use Rattle.successors.specs.Parts.{upTo}
-use Rattle.successors.specs.Successors.{swapAt, dupAt, zeroAt, otherAt, loadAt}
-use Rattle.successors.specs.Listed.{steps, Added, added-start, added-end, added-each, loop-added, loop-room, each-roomy}
+use Rattle.successors.specs.Successors.{zeroAt}
+use Rattle.successors.specs.Listed.{steps, Added, added-start, added-each, loop-added, loop-room, each-roomy}
 use borrow.Author.Needs.{needs}
 use Rattle.successors.proofs.with_zeros.Statement.{statement}
 use Rattle.successors.proofs.with_zeros.Tie as tie
