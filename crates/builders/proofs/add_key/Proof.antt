@@ -16,22 +16,51 @@ made-step-requires : tie.Need-made-step-requires
 made-step-requires c κs = search needs
 
 act-requires : tie.Need-act-requires
-act-requires c κs = (rw (c .before .made-step .ensures) (made-ready _ _ _ (omega (arith, c .before .before .before .before .if1 .left, c .before .before .before .before .before .before .before .before .before .pre))), omega (arith, c .before .before .before .before .before .before .before .before .before .pre, c .before .before .before .before .if1 .left), c .before .before .before .before .before .before .before .before .before .pre .0 .full)
+act-requires c κs =
+    let at-made-step = c .before in
+    let at-if1 = at-made-step .before .before .before in
+    let s = at-if1 .before .before .before .before .before in (
+      rw (at-made-step .made-step .ensures) (made-ready _ _ _ (omega (arith, at-if1 .if1 .left, s .pre))),
+      omega (arith, s .pre, at-if1 .if1 .left),
+      s .pre .0 .full,
+    )
 
 same-length : tie.Need-same-length
 same-length c = search needs
 
 returns-2 : tie.Need-returns-2
-returns-2 c = add-made _ _ _ (c .before .before .before .before .before .before .before .before .before .before .before .before .pre .0) (c .before .before .before .before .before .before .before .if1 .left) (c .before .before .before .before .before .before .before .before .before .before .before .before .pre .2) _ (c .before .before .before .before .before .before .first-of .ensures) _ (c .before .before .before .before .before .before .before .before .before .before .before .before .pre .1) (c .before .before .before .before .before .if2 .taken) (rw (c .before .before .before .before .made-step .ensures) at (c .before .before .act .ensures))
+returns-2 c =
+    let at-act = c .before .before in
+    let at-made-step = at-act .before .before in
+    let at-if2 = at-made-step .before in
+    let at-first-of = at-if2 .before in
+    let at-if1 = at-first-of .before in
+    let s = at-if1 .before .before .before .before .before in
+    add-made _ _ _ (s .pre .0) (at-if1 .if1 .left) (s .pre .2) _ (at-first-of .first-of .ensures) _ (s .pre .1) (at-if2 .if2 .taken)
+    (rw (at-made-step .made-step .ensures) at (at-act .act .ensures))
 
 copy-at-requires : tie.Need-copy-at-requires
-copy-at-requires c κs = (c .before .before .before .before .before .before .before .before .pre .0, place-low (workOf (c .before .before .before .before .before .before .before .before .args .work) (c .before .before .before .before .before .before .before .before .args .steps .now)) (c .before .before .before .before .before .before .before .before .args .key) _ (c .before .before .first-of .ensures) (c .before .if2 .left), omega (arith, c .before .before .before .if1 .left, c .before .before .before .before .before .before .before .before .pre))
+copy-at-requires c κs =
+    let at-if2 = c .before in
+    let at-first-of = at-if2 .before in
+    let at-if1 = at-first-of .before in
+    let s = at-if1 .before .before .before .before .before in (
+      s .pre .0,
+      place-low (workOf (s .args .work) (s .args .steps .now)) (s .args .key) _ (at-first-of .first-of .ensures) (at-if2 .if2 .left),
+      omega (arith, at-if1 .if1 .left, s .pre),
+    )
 
 same-length-2 : tie.Need-same-length-2
 same-length-2 c = search needs
 
 returns-3 : tie.Need-returns-3
-returns-3 c = add-copy _ _ _ (c .before .before .before .before .before .before .before .before .before .before .before .pre .0) (c .before .before .before .before .before .before .if1 .left) (c .before .before .before .before .before .before .before .before .before .before .before .pre .2) _ (c .before .before .before .before .before .first-of .ensures) _ (c .before .before .before .before .if2 .left) (c .before .before .copy-at .ensures)
+returns-3 c =
+    let at-copy-at = c .before .before in
+    let at-if2 = at-copy-at .before .before in
+    let at-first-of = at-if2 .before in
+    let at-if1 = at-first-of .before in
+    let s = at-if1 .before .before .before .before .before in
+    add-copy _ _ _ (s .pre .0) (at-if1 .if1 .left) (s .pre .2) _ (at-first-of .first-of .ensures) _ (at-if2 .if2 .left) (at-copy-at .copy-at .ensures)
 
 pub add-key-spec : {M : Type 1} → statement M
 add-key-spec = tie.close (tie.spec returns first-of-requires made-step-requires act-requires same-length returns-2 copy-at-requires same-length-2 returns-3)

@@ -35,7 +35,15 @@ same-length-2 : tie.Need-same-length-2
 same-length-2 c = search needs
 
 returns-4 : tie.Need-returns-4
-returns-4 c = copy-up _ _ _ _ (c .before .before .before .before .before .before .before .before .before .before .before .before .pre .0) (c .before .before .before .before .before .before .before .before .before .before .before .before .pre .1) (c .before .before .before .before .before .before .before .before .before .before .before .before .pre .2) _ _ (c .before .before .before .before .before .before .before .before .before .before .if1 .left) (c .before .before .before .before .before .before .before .before .before .if2 .left) (c .before .before .before .before .before .before .before .before .if3 .left) (c .before .before .before .before .before .before .act2 .ensures) (c .before .before .act3 .ensures)
+returns-4 c =
+    let at-act3 = c .before .before in
+    let at-act2 = at-act3 .before .before .before .before in
+    let at-if3 = at-act2 .before .before in
+    let at-if2 = at-if3 .before in
+    let at-if1 = at-if2 .before in
+    let s = at-if1 .before .before in
+    copy-up _ _ _ _ (s .pre .0) (s .pre .1) (s .pre .2) _ _ (at-if1 .if1 .left) (at-if2 .if2 .left) (at-if3 .if3 .left) (at-act2 .act2 .ensures)
+    (at-act3 .act3 .ensures)
 
 pub copy-at-spec : {M : Type 1} → statement M
 copy-at-spec = tie.close (tie.spec cast-t9 act-requires same-length returns returns-2 returns-3 cast-t13 act-requires-2 act-requires-3 same-length-2 returns-4)

@@ -35,7 +35,12 @@ same-length : tie.Need-same-length
 same-length c = search needs
 
 returns-2 : tie.Need-returns-2
-returns-2 c = tail-given _ _ _ _ _ (c .before .before .before .before .before .before .before .before .before .tail-refusal .ensures) _ _ (c .before .before .before .before .before .before .before .before .if1 .left) (c .before .before .before .before .before .before .tail .ensures) (c .before .before .give .ensures)
+returns-2 c =
+    let at-give = c .before .before in
+    let at-tail = at-give .before .before .before .before in
+    let at-if1 = at-tail .before .before in
+    let at-tail-refusal = at-if1 .before in
+    tail-given _ _ _ _ _ (at-tail-refusal .tail-refusal .ensures) _ _ (at-if1 .if1 .left) (at-tail .tail .ensures) (at-give .give .ensures)
 
 pub delete-tail-spec : {M : Type 1} → statement M
 delete-tail-spec =

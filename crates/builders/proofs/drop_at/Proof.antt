@@ -26,7 +26,12 @@ same-length-2 : tie.Need-same-length-2
 same-length-2 c = search needs
 
 returns-2 : tie.Need-returns-2
-returns-2 c = drop-deep _ _ (c .before .before .before .before .before .before .before .before .before .before .pre .0) (c .before .before .before .before .before .before .before .before .before .before .pre .1) _ _ (c .before .before .before .before .before .before .before .before .if1 .left) (c .before .before .before .before .before .before .act2 .ensures) (c .before .before .act3 .ensures)
+returns-2 c =
+    let at-act3 = c .before .before in
+    let at-act2 = at-act3 .before .before .before .before in
+    let at-if1 = at-act2 .before .before in
+    let s = at-if1 .before .before in
+    drop-deep _ _ (s .pre .0) (s .pre .1) _ _ (at-if1 .if1 .left) (at-act2 .act2 .ensures) (at-act3 .act3 .ensures)
 
 pub drop-at-spec : {M : Type 1} → statement M
 drop-at-spec = tie.close (tie.spec act-requires same-length returns cast-t9 act-requires-2 act-requires-3 same-length-2 returns-2)

@@ -50,18 +50,27 @@ loop-less c = search needs
 
 loop-again : tie.Need-loop-again Inv-loop μ-loop
 loop-again c =
-    let v = c .before .before .before .before .before .before .before .before .before .loop .inv in
-    let l = c .before .before .before .before .before .before .before .before .loop-test .taken in
-    (filling-passed _ _ _ _ _ _ (filling-next _ _ _ _ _ (v .0) l _ (rw (v .1 .each _ l) at (c .before .before .before .before .before .before .before .missing .ensures)) _ (c .before .before .before .before .before .add-times .ensures) (c .before .if1 .taken)) (c .next-wanted2 .ensures), v .1)
+    let at-if1 = c .before in
+    let at-add-times = at-if1 .before .before .before .before in
+    let at-missing = at-add-times .before .before in
+    let at-loop-test = at-missing .before in
+    let at-loop = at-loop-test .before in
+    let v = at-loop .loop .inv in
+    let l = at-loop-test .loop-test .taken in
+    (filling-passed _ _ _ _ _ _ (filling-next _ _ _ _ _ (v .0) l _ (rw (v .1 .each _ l) at (at-missing .missing .ensures)) _ (at-add-times .add-times .ensures) (at-if1 .if1 .taken)) (c .next-wanted2 .ensures), v .1)
 
 same-length : tie.Need-same-length Inv-loop μ-loop
 same-length c = c .before .before .before .before .add-times .ensures .room .full ∙ sym (c .before .before .before .before .before .before .before .before .before .before .before .before .before .before .pre .0 .full)
 
 returns : tie.Need-returns Inv-loop μ-loop
 returns c =
-    let v = c .before .before .before .before .before .before .before .before .loop .inv in
-    let l = c .before .before .before .before .before .before .before .loop-test .taken in
-    filling-none _ _ _ _ _ (v .0) l _ (rw (v .1 .each _ l) at (c .before .before .before .before .before .before .missing .ensures)) _ (c .before .before .before .before .add-times .ensures) (c .if1 .left)
+    let at-add-times = c .before .before .before .before in
+    let at-missing = at-add-times .before .before in
+    let at-loop-test = at-missing .before in
+    let at-loop = at-loop-test .before in
+    let v = at-loop .loop .inv in
+    let l = at-loop-test .loop-test .taken in
+    filling-none _ _ _ _ _ (v .0) l _ (rw (v .1 .each _ l) at (at-missing .missing .ensures)) _ (at-add-times .add-times .ensures) (c .if1 .left)
 
 same-length-2 : tie.Need-same-length-2 Inv-loop μ-loop
 same-length-2 c = c .before .loop .inv .0 .room .full ∙ sym (c .before .before .before .before .before .before .before .pre .0 .full)

@@ -35,7 +35,15 @@ loop-less : tie.Need-loop-less Inv-loop μ-loop
 loop-less c = search needs
 
 loop-again : tie.Need-loop-again Inv-loop μ-loop
-loop-again c = (left-next _ _ _ _ (c .before .before .before .loop .inv .1) (c .before .before .loop-test .taken) (sym (length-keys (c .before .before .before .before .args .stack))) (c .before .before .before .loop .inv .0) (ne-eqb _ _ (λ e. c .if1 .left (e ∙ sym (c .before .get .ensures)))), omega arith)
+loop-again c =
+    let at-get = c .before in
+    let at-loop-test = at-get .before in
+    let at-loop = at-loop-test .before in
+    let s = at-loop .before in (
+      left-next _ _ _ _ (at-loop .loop .inv .1) (at-loop-test .loop-test .taken) (sym (length-keys (s .args .stack))) (at-loop .loop .inv .0)
+          (ne-eqb _ _ (λ e. c .if1 .left (e ∙ sym (at-get .get .ensures)))),
+      omega arith,
+    )
 
 returns-2 : tie.Need-returns-2 Inv-loop μ-loop
 returns-2 c = seek-last _ _ _ _ (c .before .loop .inv .0) (omega (arith, c .loop-test .left)) (sym (length-keys (c .before .before .args .stack)))

@@ -21,7 +21,10 @@ part-star-end : tie.Need-part-star-end
 part-star-end c = omega (arith, written-length _ _ _ (c .before .before .write .ensures))
 
 star-requires : tie.Need-star-requires
-star-requires c κs = (rw (written-take _ _ _ (c .before .before .before .before .write .ensures)) (c .before .before .before .before .before .before .before .before .before .pre .pair), omega (arith, c .before .before .before .before .before .before .before .before .before .pre .room, c .before .before .before .before .before .before .before .before .before .pre .full))
+star-requires c κs =
+    let at-write = c .before .before .before .before in
+    let s = at-write .before .before .before .before .before in
+    (rw (written-take _ _ _ (at-write .write .ensures)) (s .pre .pair), omega (arith, s .pre .room, s .pre .full))
 
 same-length : tie.Need-same-length
 same-length c = search needs

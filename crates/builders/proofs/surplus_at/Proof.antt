@@ -33,7 +33,14 @@ array-read-if1 : tie.Need-array-read-if1 Inv-loop μ-loop
 array-read-if1 c = key-low (keysOf (c .before .before .before .before .before .args .stack)) _ _ (c .before .before .before .before .before .pre .1) (omega (arith, length-keys (c .before .before .before .before .before .args .stack), c .before .before .loop-test .taken)) (c .before .get .ensures)
 
 returns : tie.Need-returns Inv-loop μ-loop
-returns c = seek-found _ _ _ (c .before .before .before .before .loop .inv) (omega (arith, length-keys (c .before .before .before .before .before .before .args .stack), c .before .before .before .loop-test .taken)) (seen-more (keysOf (c .before .before .before .before .before .before .args .stack)) (c .before .before .before .before .before .before .args .wanted .now) (c .before .before .before .before .before .counts-of .result) (c .before .before .before .before .loop .i) (c .before .before .get .result) (c .before .before .before .before .before .before .pre .1) (c .before .before .before .before .before .counts-of .ensures) (omega (arith, length-keys (c .before .before .before .before .before .before .args .stack), c .before .before .before .loop-test .taken)) (c .before .before .get .ensures) (c .if1 .taken))
+returns c =
+    let at-get = c .before .before in
+    let at-loop-test = at-get .before in
+    let at-loop = at-loop-test .before in
+    let at-counts-of = at-loop .before in
+    let s = at-counts-of .before in
+    seek-found _ _ _ (at-loop .loop .inv) (omega (arith, length-keys (s .args .stack), at-loop-test .loop-test .taken))
+    (seen-more (keysOf (s .args .stack)) (s .args .wanted .now) (at-counts-of .counts-of .result) (at-loop .loop .i) (at-get .get .result) (s .pre .1) (at-counts-of .counts-of .ensures) (omega (arith, length-keys (s .args .stack), at-loop-test .loop-test .taken)) (at-get .get .ensures) (c .if1 .taken))
 
 add-i : tie.Need-add-i Inv-loop μ-loop
 add-i c = search needs
@@ -42,7 +49,14 @@ loop-less : tie.Need-loop-less Inv-loop μ-loop
 loop-less c = search needs
 
 loop-again : tie.Need-loop-again Inv-loop μ-loop
-loop-again c = seek-next _ _ _ (c .before .before .before .before .loop .inv) (omega (arith, length-keys (c .before .before .before .before .before .before .args .stack), c .before .before .before .loop-test .taken)) (seen-enough (keysOf (c .before .before .before .before .before .before .args .stack)) (c .before .before .before .before .before .before .args .wanted .now) (c .before .before .before .before .before .counts-of .result) (c .before .before .before .before .loop .i) (c .before .before .get .result) (c .before .before .before .before .before .before .pre .1) (c .before .before .before .before .before .counts-of .ensures) (omega (arith, length-keys (c .before .before .before .before .before .before .args .stack), c .before .before .before .loop-test .taken)) (c .before .before .get .ensures) (c .if1 .left))
+loop-again c =
+    let at-get = c .before .before in
+    let at-loop-test = at-get .before in
+    let at-loop = at-loop-test .before in
+    let at-counts-of = at-loop .before in
+    let s = at-counts-of .before in
+    seek-next _ _ _ (at-loop .loop .inv) (omega (arith, length-keys (s .args .stack), at-loop-test .loop-test .taken))
+    (seen-enough (keysOf (s .args .stack)) (s .args .wanted .now) (at-counts-of .counts-of .result) (at-loop .loop .i) (at-get .get .result) (s .pre .1) (at-counts-of .counts-of .ensures) (omega (arith, length-keys (s .args .stack), at-loop-test .loop-test .taken)) (at-get .get .ensures) (c .if1 .left))
 
 returns-2 : tie.Need-returns-2 Inv-loop μ-loop
 returns-2 c = seek-last _ _ _ _ (c .before .loop .inv) (c .loop-test .left) (sym (length-keys (c .before .before .before .args .stack)))

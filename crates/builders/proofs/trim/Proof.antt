@@ -41,7 +41,17 @@ loop-less : tie.Need-loop-less Inv-loop μ-loop
 loop-less c = search needs
 
 loop-again : tie.Need-loop-again Inv-loop μ-loop
-loop-again c = (trim-next _ _ _ _ _ (c .before .before .before .before .before .before .before .before .before .before .loop .inv .0) _ _ _ _ (c .before .before .before .before .before .before .before .before .if1 .taken) (c .before .before .before .before .before .before .before .beyond .ensures) (c .before .before .before .before .before .before .if2 .left) (c .before .before .before .before .drop-at .ensures) (c .before .before .before .before .before .before .before .before .before .before .before .before .before .counts .ensures) (c .surplus-at2 .ensures), c .before .before .before .before .before .before .before .before .before .before .loop .inv .1)
+loop-again c =
+    let at-drop-at = c .before .before .before .before in
+    let at-if2 = at-drop-at .before .before in
+    let at-beyond = at-if2 .before in
+    let at-if1 = at-beyond .before in
+    let at-loop = at-if1 .before .before in
+    let at-counts = at-loop .before .before .before in (
+      trim-next _ _ _ _ _ (at-loop .loop .inv .0) _ _ _ _ (at-if1 .if1 .taken) (at-beyond .beyond .ensures) (at-if2 .if2 .left)
+          (at-drop-at .drop-at .ensures) (at-counts .counts .ensures) (c .surplus-at2 .ensures),
+      at-loop .loop .inv .1,
+    )
 
 same-length-2 : tie.Need-same-length-2 Inv-loop μ-loop
 same-length-2 c = c .before .before .loop .inv .0 .fit .full ∙ sym (c .before .before .before .before .before .before .before .before .pre .0 .full)

@@ -36,7 +36,15 @@ same-length : tie.Need-same-length
 same-length c = search needs
 
 returns-2 : tie.Need-returns-2
-returns-2 c = let p = c .before .before .before .before .before .before .before .before .before .before .before .before .before .before .pre in offer-taken _ _ _ _ _ (p .0) _ _ _ _ _ (c .before .before .before .before .before .before .before .before .before .built .given .1) (in-range _ _ _ (c .before .before .before .before .before .before .before .before .before .built .given .1) (p .1)) (c .before .before .before .before .before .before .cost-for-steps .ensures) (c .before .before .before .before .before .no-more .ensures) (c .before .before .before .before .if1 .taken) (p .2) (c .before .before .give .ensures)
+returns-2 c =
+    let at-give = c .before .before in
+    let at-if1 = at-give .before .before in
+    let at-no-more = at-if1 .before in
+    let at-cost-for-steps = at-no-more .before in
+    let at-built = at-cost-for-steps .before .before .before in
+    let s = at-built .before .before .before .before .before in
+    let p = s .pre in offer-taken _ _ _ _ _ (p .0) _ _ _ _ _ (at-built .built .given .1) (in-range _ _ _ (at-built .built .given .1) (p .1))
+    (at-cost-for-steps .cost-for-steps .ensures) (at-no-more .no-more .ensures) (at-if1 .if1 .taken) (p .2) (at-give .give .ensures)
 
 returns-3 : tie.Need-returns-3
 returns-3 c = offer-dear _ _ _ _ _ (c .before .before .before .before .before .before .before .before .before .before .pre .0) _ _ _ _ (c .before .before .before .before .before .built .given .1) (c .before .before .cost-for-steps .ensures) (c .before .no-more .ensures) (c .if1 .left)

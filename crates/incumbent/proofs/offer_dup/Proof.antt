@@ -18,7 +18,11 @@ slice-aggregate-offer : tie.Need-slice-aggregate-offer
 slice-aggregate-offer c = search needs
 
 offer-requires : tie.Need-offer-requires
-offer-requires c κs = let p = c .before .before .before .before .before .before .before .before .before .before .pre in (p .4, built-range (stepsOf (dupAndStar (ruled (c .before .before .before .before .before .before .before .before .before .before .args .cfg) (c .before .before .before .before .before .before .before .before .before .before .args .kinds .now)) (c .before .before .before .before .before .before .before .before .before .before .args .start .now) (c .before .before .before .before .before .before .before .before .before .before .args .goal .now))) _ _ _ 128 (c .before .before .before .dup-and-star .ensures) (search needs), search needs, p .5)
+offer-requires c κs =
+    let at-dup-and-star = c .before .before .before in
+    let s = at-dup-and-star .before .before .before .before .before .before .before in
+    let p = s .pre in
+    (p .4, built-range (stepsOf (dupAndStar (ruled (s .args .cfg) (s .args .kinds .now)) (s .args .start .now) (s .args .goal .now))) _ _ _ 128 (at-dup-and-star .dup-and-star .ensures) (search needs), search needs, p .5)
 
 same-length : tie.Need-same-length
 same-length c = search needs

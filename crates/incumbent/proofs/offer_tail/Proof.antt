@@ -16,7 +16,11 @@ slice-aggregate-offer : tie.Need-slice-aggregate-offer
 slice-aggregate-offer c = search needs
 
 offer-requires : tie.Need-offer-requires
-offer-requires c κs = let p = c .before .before .before .before .before .before .before .before .before .pre in (p .2, built-range (tailPlan (c .before .before .before .before .before .before .before .before .before .args .swap-max) (c .before .before .before .before .before .before .before .before .before .args .start .now) (c .before .before .before .before .before .before .before .before .before .args .goal .now)) _ _ _ 128 (c .before .before .before .tail-plan .ensures) (search needs), search needs, p .3)
+offer-requires c κs =
+    let at-tail-plan = c .before .before .before in
+    let s = at-tail-plan .before .before .before .before .before .before in
+    let p = s .pre in
+    (p .2, built-range (tailPlan (s .args .swap-max) (s .args .start .now) (s .args .goal .now)) _ _ _ 128 (at-tail-plan .tail-plan .ensures) (search needs), search needs, p .3)
 
 same-length : tie.Need-same-length
 same-length c = search needs

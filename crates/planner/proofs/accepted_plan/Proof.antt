@@ -120,11 +120,15 @@ same-length-5 c = search needs
 returns-3 : tie.Need-returns-3
 unfolding questionAt
 returns-3 c =
-    let s = c .before .before .before .before .before .before .before .before .before .before .before .before .before .before .before .before .before .before .before .before .before .before .before .before .before .before .before .before .before in
-    let i = c .before .before .before .before .before .before .before .before .before .before .before .before .before .before .before .before .before in
-    c .before .before .before .before .before .before .before .before .with-search .ensures
+    let at-with-search = c .before .before .before .before .before .before .before .before in
+    let at-if2 = at-with-search .before .before .before .before .before .before in
+    let b17 = at-if2 .before .before .before in
+    let b29 = b17 .before .before .before .before .before .before .before .before .before .before .before .before in
+    let s = b29 in
+    let i = b17 in
+    at-with-search .with-search .ensures
     ∙ ap (λ (h : Held). given (searched gas-bytes (problemOf (questionOf (questionAt s)) (s .args .start .now)) (listed (s .args .prices .now)) 50 (h .bound) (planHeld h) (questionAt s .allowance)) (s .args .steps .now)) (builders i)
-    ∙ ap (λ (t : Answered Cost ℕ). given t (s .args .steps .now)) (sym (by-search (questionAt s) (differs i) (c .before .before .before .before .before .before .before .before .before .before .before .before .before .before .if2 .left)))
+    ∙ ap (λ (t : Answered Cost ℕ). given t (s .args .steps .now)) (sym (by-search (questionAt s) (differs i) (at-if2 .if2 .left)))
 
 pub accepted-plan-spec : {M : Type 1} → statement M
 accepted-plan-spec =

@@ -54,10 +54,14 @@ same-length-4 c = search needs
 returns-2 : tie.Need-returns-2
 unfolding questionAt lentAt
 returns-2 c =
-    let s = c .before .before .before .before .before .before .before .before .before .before .before .before .before .before .before .before .before .before .before .before .before .before .before in
-    let p = c .before .before .before .before .before .before .before .before .accepted-plan in
+    let at-accepted-plan = c .before .before .before .before .before .before .before .before in
+    let at-if1 = at-accepted-plan .before .before .before .before .before in
+    let at-refusal = at-if1 .before in
+    let b23 = at-refusal .before .before .before .before .before .before .before .before .before in
+    let s = b23 in
+    let p = at-accepted-plan .accepted-plan in
     let z = given-accepted (answered (questionAt s)) (p .result) (s .args .steps .now) (p .last .1 .1 .1 .0) (p .ensures) in (
-      p .ensures ∙ sym (when-accepted (questionAt s) (lentAt s) (s .args .steps .now) (sym (c .before .before .before .before .before .before .before .before .before .before .before .before .before .before .refusal .ensures) ∙ c .before .before .before .before .before .before .before .before .before .before .before .before .before .if1 .left)),
+      p .ensures ∙ sym (when-accepted (questionAt s) (lentAt s) (s .args .steps .now) (sym (at-refusal .refusal .ensures) ∙ at-if1 .if1 .left)),
       (
         work-free _ (s .args .nodes .now) (p .last .0) z (same-length-2 c),
         work-free _ (s .args .heads .now) (p .last .1 .0) z (same-length-3 c),

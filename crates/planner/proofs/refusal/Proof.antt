@@ -28,7 +28,17 @@ row-requires-4 : tie.Need-row-requires-4
 row-requires-4 c κs = search needs
 
 returns : tie.Need-returns
-returns c = assembled _ _ _ _ _ _ _ _ _ _ (c .before .before .before .before .before .before .before .before .short-lists .ensures) (c .before .before .before .before .before .before .before .row .ensures) (c .before .before .before .before .before .before .table-rows .ensures) (c .before .before .before .before .before .allowance-fault .ensures) (c .before .before .before .before .row2 .ensures) (c .before .before .row3 .ensures) (c .before .reach-fault .ensures) (c .row4 .ensures)
+returns c =
+    let at-reach-fault = c .before in
+    let at-row3 = at-reach-fault .before in
+    let at-row2 = at-row3 .before .before in
+    let at-allowance-fault = at-row2 .before in
+    let at-table-rows = at-allowance-fault .before in
+    let at-row = at-table-rows .before in
+    let at-short-lists = at-row .before in
+    assembled _ _ _ _ _ _ _ _ _ _ (at-short-lists .short-lists .ensures) (at-row .row .ensures) (at-table-rows .table-rows .ensures)
+    (at-allowance-fault .allowance-fault .ensures) (at-row2 .row2 .ensures) (at-row3 .row3 .ensures) (at-reach-fault .reach-fault .ensures)
+    (c .row4 .ensures)
 
 pub refusal-spec : {M : Type 1} → statement M
 refusal-spec =

@@ -41,7 +41,18 @@ row-requires-3 c κs = search needs
 
 returns : tie.Need-returns
 returns c =
-    c .row3 .ensures ∙ rw (c .before .either3 .ensures, c .before .before .before .kinds-fault .ensures, c .before .before .prices-fault .ensures, c .before .before .before .before .row2 .ensures, c .before .before .before .before .before .either2 .ensures, c .before .before .before .before .before .before .before .any-over .ensures, c .before .before .before .before .before .before .any-over2 .ensures, c .before .before .before .before .before .before .before .before .row .ensures, c .before .before .before .before .before .before .before .before .before .either .ensures, c .before .before .before .before .before .before .before .before .before .before .before .too-long .ensures, c .before .before .before .before .before .before .before .before .before .before .too-long2 .ensures)
+    let at-either3 = c .before in
+    let at-prices-fault = at-either3 .before in
+    let at-kinds-fault = at-prices-fault .before in
+    let at-row2 = at-kinds-fault .before in
+    let at-either2 = at-row2 .before in
+    let at-any-over2 = at-either2 .before in
+    let at-any-over = at-any-over2 .before in
+    let at-row = at-any-over .before in
+    let at-either = at-row .before in
+    let at-too-long2 = at-either .before in
+    let at-too-long = at-too-long2 .before in
+    c .row3 .ensures ∙ rw (at-either3 .either3 .ensures, at-kinds-fault .kinds-fault .ensures, at-prices-fault .prices-fault .ensures, at-row2 .row2 .ensures, at-either2 .either2 .ensures, at-any-over .any-over .ensures, at-any-over2 .any-over2 .ensures, at-row .row .ensures, at-either .either .ensures, at-too-long .too-long .ensures, at-too-long2 .too-long2 .ensures)
 
 pub table-rows-spec : {M : Type 1} → statement M
 table-rows-spec =

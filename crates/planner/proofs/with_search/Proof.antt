@@ -118,8 +118,11 @@ returns c = ap (λ (t : Answer). (t, stepsAfter (c .before .before .before .befo
 give-held-requires : tie.Need-give-held-requires
 unfolding lentAt questionAt
 give-held-requires c κs =
-    let s = c .before .before .before .before .before .before .before .before .before .before .before .before .before .before .before .before .before .before .before .before .before .before .before .before .before in
-    let k = ap length (unwritten (c .before .before .before .before .before .before .before .before .before .before) (c .before .if1 .left)) in
+    let at-if1 = c .before in
+    let b10 = at-if1 .before .before .before .before .before .before .before .before .before in
+    let b25 = b10 .before .before .before .before .before .before .before .before .before .before .before .before .before .before .before in
+    let s = b25 in
+    let k = ap length (unwritten (b10) (at-if1 .if1 .left)) in
     (s .pre .1 .0, s .pre .1 .1, omega (arith, k, okAt s .steps))
 
 same-length-5 : tie.Need-same-length-5
@@ -137,11 +140,15 @@ same-length-8 c = search needs
 returns-2 : tie.Need-returns-2
 unfolding foundAt limitsAt heldAt
 returns-2 c =
-    let s = c .before .before .before .before .before .before .before .before .before .before .before .before .before .before .before .before .before .before .before .before .before .before .before .before .before .before .before .before in
-    let n = c .before .before .before .before .if1 .left in
-    c .before .before .give-held .ensures
-    ∙ ap (λ (z : List ℕ). given (record { plan = heldAt s; ending = c .before .before .before .before .before .before .before .before .before .before .before .before .before .search-from .result .ending; expansions = c .before .before .before .before .before .before .before .before .before .before .before .before .before .search-from .result .expansions }) z) (unwritten (c .before .before .before .before .before .before .before .before .before .before .before .before .before) n)
-    ∙ ap (λ (t : Answered Cost ℕ). given t (s .args .steps .now)) (sym (has-none (c .before .before .before .before .before .before .before .before .before .before .before .before .before) n))
+    let at-give-held = c .before .before in
+    let at-if1 = at-give-held .before .before in
+    let b13 = at-if1 .before .before .before .before .before .before .before .before .before in
+    let b28 = b13 .before .before .before .before .before .before .before .before .before .before .before .before .before .before .before in
+    let s = b28 in
+    let n = at-if1 .if1 .left in
+    at-give-held .give-held .ensures
+    ∙ ap (λ (z : List ℕ). given (record { plan = heldAt s; ending = b13 .search-from .result .ending; expansions = b13 .search-from .result .expansions }) z) (unwritten (b13) n)
+    ∙ ap (λ (t : Answered Cost ℕ). given t (s .args .steps .now)) (sym (has-none (b13) n))
 
 pub with-search-spec : {M : Type 1} → statement M
 with-search-spec =

@@ -54,7 +54,14 @@ turns-less-2 : tie.Need-turns-less-2 Inv-turns μ-turns
 turns-less-2 c = search needs
 
 turns-again-2 : tie.Need-turns-again-2 Inv-turns μ-turns
-turns-again-2 c = passed-stale _ _ _ _ _ _ _ _ _ _ _ _ _ (c .before .before .before .before .before .before .before .before .before .before .before .before .before .before .turns .inv) _ _ (c .before .before .before .before .before .before .before .before .before .before .before .take .ensures) _ (c .before .before .before .before .before .before .recall .ensures) _ (c .before .before .before .before .node .given .1) (c .if2 .taken) (c .before .before .before .before .before .before .before .before .before .before .list .given)
+turns-again-2 c =
+    let at-node = c .before .before .before .before in
+    let at-recall = at-node .before .before in
+    let at-list = at-recall .before .before .before .before in
+    let at-take = at-list .before in
+    let at-turns = at-take .before .before .before in
+    passed-stale _ _ _ _ _ _ _ _ _ _ _ _ _ (at-turns .turns .inv) _ _ (at-take .take .ensures) _ (at-recall .recall .ensures) _
+    (at-node .node .given .1) (c .if2 .taken) (at-list .list .given)
 
 same-requires : tie.Need-same-requires Inv-turns μ-turns
 same-requires c κs = search needs
@@ -66,7 +73,17 @@ turns-less-3 : tie.Need-turns-less-3 Inv-turns μ-turns
 turns-less-3 c = search needs
 
 turns-again-3 : tie.Need-turns-again-3 Inv-turns μ-turns
-turns-again-3 c = passed-goal _ _ _ _ _ _ _ _ _ _ _ _ _ (c .before .before .before .before .before .before .before .before .before .before .before .before .before .before .before .before .before .before .turns .inv) _ _ (c .before .before .before .before .before .before .before .before .before .before .before .before .before .before .before .take .ensures) _ (c .before .before .before .before .before .before .before .before .before .before .recall .ensures) _ (c .before .before .before .before .before .before .before .before .node .given .1) (c .before .before .before .before .if2 .left) _ (c .before .before .same .ensures) (c .before .if3 .taken) _ (c .goal-drawn .ensures) (c .before .before .before .before .before .before .before .before .before .before .before .before .before .before .list .given)
+turns-again-3 c =
+    let at-if3 = c .before in
+    let at-same = at-if3 .before in
+    let at-if2 = at-same .before .before in
+    let at-node = at-if2 .before .before .before .before in
+    let at-recall = at-node .before .before in
+    let at-list = at-recall .before .before .before .before in
+    let at-take = at-list .before in
+    let at-turns = at-take .before .before .before in
+    passed-goal _ _ _ _ _ _ _ _ _ _ _ _ _ (at-turns .turns .inv) _ _ (at-take .take .ensures) _ (at-recall .recall .ensures) _
+    (at-node .node .given .1) (at-if2 .if2 .left) _ (at-same .same .ensures) (at-if3 .if3 .taken) _ (c .goal-drawn .ensures) (at-list .list .given)
 
 cut-requires : tie.Need-cut-requires Inv-turns μ-turns
 cut-requires c κs = search needs
@@ -78,16 +95,82 @@ over-requires : tie.Need-over-requires Inv-turns μ-turns
 over-requires c κs = search needs
 
 expand-drawn-requires : tie.Need-expand-drawn-requires Inv-turns μ-turns
-expand-drawn-requires c κs = (c .before .before .before .before .before .before .before .before .before .before .before .before .before .before .before .before .before .before .before .before .before .before .before .before .before .before .before .turns .inv .kept, (c .before .before .before .before .before .before .before .before .before .before .before .before .before .before .before .before .before .before .before .before .before .before .before .before .take .ensures .piled, (expand-nodes _ _ _ _ _ _ _ _ _ _ _ _ _ (c .before .before .before .before .before .before .before .before .before .before .before .before .before .before .before .before .before .before .before .before .before .before .before .before .before .before .before .turns .inv) _ _ (c .before .before .before .before .before .before .before .before .before .before .before .before .before .before .before .before .before .before .before .before .before .before .before .before .take .ensures) _ (c .before .before .before .before .before .before .before .before .before .before .before .before .before .before .before .before .before .before .before .recall .ensures) _ (c .before .before .before .before .before .before .before .before .before .before .before .before .before .before .before .before .before .node .given .1) (c .before .before .before .before .before .before .before .before .before .before .before .before .before .if2 .left) _ (c .before .before .before .before .before .before .before .before .before .before .before .same .ensures) (c .before .before .before .before .before .before .before .before .before .before .if3 .left) _ (c .before .before .before .before .before .before .before .before .before .cut .ensures) (c .before .before .before .before .before .before .before .before .if4 .left) _ (c .before .before .before .before .before .before .before .allowed .ensures) _ (c .before .before .before .before .before .before .over .ensures) (c .before .before .before .before .before .if5 .left) (c .before .before .before .before .before .before .before .before .before .before .before .before .before .before .before .before .before .before .before .before .before .before .before .before .before .before .before .before .before .before .before .before .before .pre .1 .1 .0), (expand-list _ _ _ _ _ _ _ _ _ _ _ _ _ (c .before .before .before .before .before .before .before .before .before .before .before .before .before .before .before .before .before .before .before .before .before .before .before .before .before .before .before .turns .inv) _ _ (c .before .before .before .before .before .before .before .before .before .before .before .before .before .before .before .before .before .before .before .before .before .before .before .before .take .ensures) _ (c .before .before .before .before .before .before .before .before .before .before .before .before .before .before .before .before .before .before .before .recall .ensures) _ (c .before .before .before .before .before .before .before .before .before .before .before .before .before .before .before .before .before .node .given .1) (c .before .before .before .before .before .before .before .before .before .before .before .before .before .if2 .left) _ (c .before .before .before .before .before .before .before .before .before .before .before .same .ensures) (c .before .before .before .before .before .before .before .before .before .before .if3 .left) _ (c .before .before .before .before .before .before .before .before .before .cut .ensures) (c .before .before .before .before .before .before .before .before .if4 .left) _ (c .before .before .before .before .before .before .before .allowed .ensures) _ (c .before .before .before .before .before .before .over .ensures) (c .before .before .before .before .before .if5 .left) (c .before .before .before .before .before .before .before .before .before .before .before .before .before .before .before .before .before .before .before .before .before .before .before .before .before .before .before .before .before .before .before .before .before .pre .1 .1 .0) (c .before .before .before .before .before .before .before .before .before .before .before .before .before .before .before .before .before .before .before .before .before .before .before .list .given), (c .before .before .before .before .before .before .before .before .before .before .before .before .before .before .before .before .before .before .before .before .before .before .before .before .before .before .before .before .before .before .before .before .before .pre .1 .1 .1 .0, expand-awaits _ _ _ _ _ _ _ _ _ _ _ _ _ (c .before .before .before .before .before .before .before .before .before .before .before .before .before .before .before .before .before .before .before .before .before .before .before .before .before .before .before .turns .inv) _ _ (c .before .before .before .before .before .before .before .before .before .before .before .before .before .before .before .before .before .before .before .before .before .before .before .before .take .ensures) _ (c .before .before .before .before .before .before .before .before .before .before .before .before .before .before .before .before .before .before .before .recall .ensures) _ (c .before .before .before .before .before .before .before .before .before .before .before .before .before .before .before .before .before .node .given .1) (c .before .before .before .before .before .before .before .before .before .before .before .before .before .if2 .left) _ (c .before .before .before .before .before .before .before .before .before .before .before .same .ensures) (c .before .before .before .before .before .before .before .before .before .before .if3 .left) _ (c .before .before .before .before .before .before .before .before .before .cut .ensures) (c .before .before .before .before .before .before .before .before .if4 .left) _ (c .before .before .before .before .before .before .before .allowed .ensures) _ (c .before .before .before .before .before .before .over .ensures) (c .before .before .before .before .before .if5 .left))))))
+expand-drawn-requires c κs =
+    let at-if5 = c .before .before .before .before .before in
+    let at-over = at-if5 .before in
+    let at-allowed = at-over .before in
+    let at-if4 = at-allowed .before in
+    let at-cut = at-if4 .before in
+    let at-if3 = at-cut .before in
+    let at-same = at-if3 .before in
+    let at-if2 = at-same .before .before in
+    let at-node = at-if2 .before .before .before .before in
+    let at-recall = at-node .before .before in
+    let at-list = at-recall .before .before .before .before in
+    let at-take = at-list .before in
+    let at-turns = at-take .before .before .before in
+    let s = at-turns .before .before .before .before .before .before in (
+      at-turns .turns .inv .kept,
+      (
+        at-take .take .ensures .piled,
+        (
+          expand-nodes _ _ _ _ _ _ _ _ _ _ _ _ _ (at-turns .turns .inv) _ _ (at-take .take .ensures) _ (at-recall .recall .ensures) _
+              (at-node .node .given .1) (at-if2 .if2 .left) _ (at-same .same .ensures) (at-if3 .if3 .left) _ (at-cut .cut .ensures) (at-if4 .if4 .left) _
+              (at-allowed .allowed .ensures) _ (at-over .over .ensures) (at-if5 .if5 .left) (s .pre .1 .1 .0),
+          (
+            expand-list _ _ _ _ _ _ _ _ _ _ _ _ _ (at-turns .turns .inv) _ _ (at-take .take .ensures) _ (at-recall .recall .ensures) _
+                (at-node .node .given .1) (at-if2 .if2 .left) _ (at-same .same .ensures) (at-if3 .if3 .left) _ (at-cut .cut .ensures) (at-if4 .if4 .left)
+                _ (at-allowed .allowed .ensures) _ (at-over .over .ensures) (at-if5 .if5 .left) (s .pre .1 .1 .0) (at-list .list .given),
+            (
+              s .pre .1 .1 .1 .0,
+              expand-awaits _ _ _ _ _ _ _ _ _ _ _ _ _ (at-turns .turns .inv) _ _ (at-take .take .ensures) _ (at-recall .recall .ensures) _
+                  (at-node .node .given .1) (at-if2 .if2 .left) _ (at-same .same .ensures) (at-if3 .if3 .left) _ (at-cut .cut .ensures)
+                  (at-if4 .if4 .left) _ (at-allowed .allowed .ensures) _ (at-over .over .ensures) (at-if5 .if5 .left),
+            ),
+          ),
+        ),
+      ),
+    )
 
 add-count : tie.Need-add-count Inv-turns μ-turns
-add-count c = omega (arith, c .before .before .before .before .before .before .before .before .before .before .if6 .left, c .before .before .before .before .before .before .before .before .before .before .before .before .before .before .before .before .before .before .before .before .before .before .before .before .before .before .before .before .before .before .before .before .before .before .before .before .before .before .before .before .good)
+add-count c =
+    let b10 = c .before .before .before .before .before .before .before .before .before .before in
+    let at-if6 = b10 in
+    let s = at-if6 .before .before .before .before .before .before .before .before .before .before .before .before .before .before .before .before .before .before .before .before .before .before .before .before .before .before .before .before .before .before in
+    omega (arith, at-if6 .if6 .left, s .good)
 
 turns-less-4 : tie.Need-turns-less-4 Inv-turns μ-turns
-turns-less-4 c = omega (arith, c .before .before .before .before .before .before .before .before .before .before .if6 .left, c .before .before .before .before .before .before .expand-drawn .ensures .list-most, c .before .before .before .before .before .before .before .before .before .before .before .before .before .before .before .before .before .before .before .before .before .before .before .before .before .before .before .before .before .before .before .before .before .if1 .left)
+turns-less-4 c =
+    let b6 = c .before .before .before .before .before .before in
+    let at-expand-drawn = b6 in
+    let at-if6 = at-expand-drawn .before .before .before .before in
+    let at-if1 = at-if6 .before .before .before .before .before .before .before .before .before .before .before .before .before .before .before .before .before .before .before .before .before .before .before in
+    omega (arith, at-if6 .if6 .left, at-expand-drawn .expand-drawn .ensures .list-most, at-if1 .if1 .left)
 
 turns-again-4 : tie.Need-turns-again-4 Inv-turns μ-turns
-turns-again-4 c = passed-expanded _ _ _ _ _ _ _ _ _ _ _ _ _ (c .before .before .before .before .before .before .before .before .before .before .before .before .before .before .before .before .before .before .before .before .before .before .before .before .before .before .before .before .before .before .before .before .before .before .turns .inv) _ _ (c .before .before .before .before .before .before .before .before .before .before .before .before .before .before .before .before .before .before .before .before .before .before .before .before .before .before .before .before .before .before .before .take .ensures) _ (c .before .before .before .before .before .before .before .before .before .before .before .before .before .before .before .before .before .before .before .before .before .before .before .before .before .before .recall .ensures) _ (c .before .before .before .before .before .before .before .before .before .before .before .before .before .before .before .before .before .before .before .before .before .before .before .before .node .given .1) (c .before .before .before .before .before .before .before .before .before .before .before .before .before .before .before .before .before .before .before .before .if2 .left) _ (c .before .before .before .before .before .before .before .before .before .before .before .before .before .before .before .before .before .before .same .ensures) (c .before .before .before .before .before .before .before .before .before .before .before .before .before .before .before .before .before .if3 .left) _ (c .before .before .before .before .before .before .before .before .before .before .before .before .before .before .before .before .cut .ensures) (c .before .before .before .before .before .before .before .before .before .before .before .before .before .before .before .if4 .left) _ (c .before .before .before .before .before .before .before .before .before .before .before .before .before .before .allowed .ensures) _ (c .before .before .before .before .before .before .before .before .before .before .before .before .before .over .ensures) (c .before .before .before .before .before .before .before .before .before .before .before .before .if5 .left) (c .before .before .before .before .before .before .before .before .before .before .if6 .left) _ _ _ _ (c .before .before .before .before .before .before .expand-drawn .ensures) (c .before .before .before .before .before .nodes .given) (c .before .before .before .heads .given) (c .before .list2 .given) (c .before .before .before .before .before .before .before .before .before .before .before .before .before .before .before .before .before .before .before .before .before .before .before .before .before .before .before .before .before .before .list .given)
+turns-again-4 c =
+    let at-list2 = c .before in
+    let at-heads = at-list2 .before .before in
+    let at-nodes = at-heads .before .before in
+    let at-expand-drawn = at-nodes .before in
+    let at-if6 = at-expand-drawn .before .before .before .before in
+    let at-if5 = at-if6 .before .before in
+    let at-over = at-if5 .before in
+    let at-allowed = at-over .before in
+    let at-if4 = at-allowed .before in
+    let at-cut = at-if4 .before in
+    let at-if3 = at-cut .before in
+    let at-same = at-if3 .before in
+    let at-if2 = at-same .before .before in
+    let at-node = at-if2 .before .before .before .before in
+    let at-recall = at-node .before .before in
+    let at-list = at-recall .before .before .before .before in
+    let at-take = at-list .before in
+    let at-turns = at-take .before .before .before in
+    passed-expanded _ _ _ _ _ _ _ _ _ _ _ _ _ (at-turns .turns .inv) _ _ (at-take .take .ensures) _ (at-recall .recall .ensures) _
+    (at-node .node .given .1) (at-if2 .if2 .left) _ (at-same .same .ensures) (at-if3 .if3 .left) _ (at-cut .cut .ensures) (at-if4 .if4 .left) _
+    (at-allowed .allowed .ensures) _ (at-over .over .ensures) (at-if5 .if5 .left) (at-if6 .if6 .left) _ _ _ _ (at-expand-drawn .expand-drawn .ensures)
+    (at-nodes .nodes .given) (at-heads .heads .given) (at-list2 .list2 .given) (at-list .list .given)
 
 same-length : tie.Need-same-length Inv-turns μ-turns
 same-length c = c .before .turns .inv .nodes-long
@@ -108,10 +191,23 @@ same-length-5 : tie.Need-same-length-5 Inv-turns μ-turns
 same-length-5 c = c .before .before .before .before .before .before .before .before .before .before .before .before .before .before .before .before .before .before .before .turns .inv .heads-long
 
 same-length-6 : tie.Need-same-length-6 Inv-turns μ-turns
-same-length-6 c = (c .before .before .before .before .before .before .before .before .before .before .before .before .before .before .before .list .given) ∙ c .before .before .before .before .before .before .before .before .before .before .before .before .before .before .before .before .before .before .before .turns .inv .list-long
+same-length-6 c =
+    let at-list = c .before .before .before .before .before .before .before .before .before .before .before .before .before .before .before in
+    let at-turns = at-list .before .before .before .before in
+    (at-list .list .given) ∙ at-turns .turns .inv .list-long
 
 returns-2 : tie.Need-returns-2 Inv-turns μ-turns
-returns-2 c = ended-cut _ _ _ _ _ _ _ _ _ _ _ _ _ (c .before .before .before .before .before .before .before .before .before .before .before .before .before .before .before .before .before .before .before .turns .inv) _ _ (c .before .before .before .before .before .before .before .before .before .before .before .before .before .before .before .before .take .ensures) _ (c .before .before .before .before .before .before .before .before .before .before .before .recall .ensures) _ (c .before .before .before .before .before .before .before .before .before .node .given .1) (c .before .before .before .before .before .if2 .left) _ (c .before .before .before .same .ensures) (c .before .before .if3 .left) _ (c .before .cut .ensures) (c .if4 .taken)
+returns-2 c =
+    let at-cut = c .before in
+    let at-if3 = at-cut .before in
+    let at-same = at-if3 .before in
+    let at-if2 = at-same .before .before in
+    let at-node = at-if2 .before .before .before .before in
+    let at-recall = at-node .before .before in
+    let at-take = at-recall .before .before .before .before .before in
+    let at-turns = at-take .before .before .before in
+    ended-cut _ _ _ _ _ _ _ _ _ _ _ _ _ (at-turns .turns .inv) _ _ (at-take .take .ensures) _ (at-recall .recall .ensures) _ (at-node .node .given .1)
+    (at-if2 .if2 .left) _ (at-same .same .ensures) (at-if3 .if3 .left) _ (at-cut .cut .ensures) (c .if4 .taken)
 
 same-length-7 : tie.Need-same-length-7 Inv-turns μ-turns
 same-length-7 c = c .before .before .before .before .before .before .before .before .before .before .before .before .before .before .before .before .before .before .before .before .before .before .turns .inv .nodes-long
@@ -120,10 +216,27 @@ same-length-8 : tie.Need-same-length-8 Inv-turns μ-turns
 same-length-8 c = c .before .before .before .before .before .before .before .before .before .before .before .before .before .before .before .before .before .before .before .before .before .before .turns .inv .heads-long
 
 same-length-9 : tie.Need-same-length-9 Inv-turns μ-turns
-same-length-9 c = (c .before .before .before .before .before .before .before .before .before .before .before .before .before .before .before .before .before .before .list .given) ∙ c .before .before .before .before .before .before .before .before .before .before .before .before .before .before .before .before .before .before .before .before .before .before .turns .inv .list-long
+same-length-9 c =
+    let at-list = c .before .before .before .before .before .before .before .before .before .before .before .before .before .before .before .before .before .before in
+    let at-turns = at-list .before .before .before .before in
+    (at-list .list .given) ∙ at-turns .turns .inv .list-long
 
 returns-3 : tie.Need-returns-3 Inv-turns μ-turns
-returns-3 c = ended-states _ _ _ _ _ _ _ _ _ _ _ _ _ (c .before .before .before .before .before .before .before .before .before .before .before .before .before .before .before .before .before .before .before .before .before .before .turns .inv) _ _ (c .before .before .before .before .before .before .before .before .before .before .before .before .before .before .before .before .before .before .before .take .ensures) _ (c .before .before .before .before .before .before .before .before .before .before .before .before .before .before .recall .ensures) _ (c .before .before .before .before .before .before .before .before .before .before .before .before .node .given .1) (c .before .before .before .before .before .before .before .before .if2 .left) _ (c .before .before .before .before .before .before .same .ensures) (c .before .before .before .before .before .if3 .left) _ (c .before .before .before .before .cut .ensures) (c .before .before .before .if4 .left) _ (c .before .before .allowed .ensures) _ (c .before .over .ensures) (c .if5 .taken)
+returns-3 c =
+    let at-over = c .before in
+    let at-allowed = at-over .before in
+    let at-if4 = at-allowed .before in
+    let at-cut = at-if4 .before in
+    let at-if3 = at-cut .before in
+    let at-same = at-if3 .before in
+    let at-if2 = at-same .before .before in
+    let at-node = at-if2 .before .before .before .before in
+    let at-recall = at-node .before .before in
+    let at-take = at-recall .before .before .before .before .before in
+    let at-turns = at-take .before .before .before in
+    ended-states _ _ _ _ _ _ _ _ _ _ _ _ _ (at-turns .turns .inv) _ _ (at-take .take .ensures) _ (at-recall .recall .ensures) _
+    (at-node .node .given .1) (at-if2 .if2 .left) _ (at-same .same .ensures) (at-if3 .if3 .left) _ (at-cut .cut .ensures) (at-if4 .if4 .left) _
+    (at-allowed .allowed .ensures) _ (at-over .over .ensures) (c .if5 .taken)
 
 same-length-10 : tie.Need-same-length-10 Inv-turns μ-turns
 same-length-10 c = c .before .before .before .before .before .before .before .before .before .before .before .before .before .before .before .before .before .before .before .before .before .before .before .before .turns .inv .nodes-long
@@ -132,10 +245,28 @@ same-length-11 : tie.Need-same-length-11 Inv-turns μ-turns
 same-length-11 c = c .before .before .before .before .before .before .before .before .before .before .before .before .before .before .before .before .before .before .before .before .before .before .before .before .turns .inv .heads-long
 
 same-length-12 : tie.Need-same-length-12 Inv-turns μ-turns
-same-length-12 c = (c .before .before .before .before .before .before .before .before .before .before .before .before .before .before .before .before .before .before .before .before .list .given) ∙ c .before .before .before .before .before .before .before .before .before .before .before .before .before .before .before .before .before .before .before .before .before .before .before .before .turns .inv .list-long
+same-length-12 c =
+    let at-list = c .before .before .before .before .before .before .before .before .before .before .before .before .before .before .before .before .before .before .before .before in
+    let at-turns = at-list .before .before .before .before in
+    (at-list .list .given) ∙ at-turns .turns .inv .list-long
 
 returns-4 : tie.Need-returns-4 Inv-turns μ-turns
-returns-4 c = ended-expansions _ _ _ _ _ _ _ _ _ _ _ _ _ (c .before .before .before .before .before .before .before .before .before .before .before .before .before .before .before .before .before .before .before .before .before .before .before .before .turns .inv) _ _ (c .before .before .before .before .before .before .before .before .before .before .before .before .before .before .before .before .before .before .before .before .before .take .ensures) _ (c .before .before .before .before .before .before .before .before .before .before .before .before .before .before .before .before .recall .ensures) _ (c .before .before .before .before .before .before .before .before .before .before .before .before .before .before .node .given .1) (c .before .before .before .before .before .before .before .before .before .before .if2 .left) _ (c .before .before .before .before .before .before .before .before .same .ensures) (c .before .before .before .before .before .before .before .if3 .left) _ (c .before .before .before .before .before .before .cut .ensures) (c .before .before .before .before .before .if4 .left) _ (c .before .before .before .before .allowed .ensures) _ (c .before .before .before .over .ensures) (c .before .before .if5 .left) (c .if6 .taken)
+returns-4 c =
+    let at-if5 = c .before .before in
+    let at-over = at-if5 .before in
+    let at-allowed = at-over .before in
+    let at-if4 = at-allowed .before in
+    let at-cut = at-if4 .before in
+    let at-if3 = at-cut .before in
+    let at-same = at-if3 .before in
+    let at-if2 = at-same .before .before in
+    let at-node = at-if2 .before .before .before .before in
+    let at-recall = at-node .before .before in
+    let at-take = at-recall .before .before .before .before .before in
+    let at-turns = at-take .before .before .before in
+    ended-expansions _ _ _ _ _ _ _ _ _ _ _ _ _ (at-turns .turns .inv) _ _ (at-take .take .ensures) _ (at-recall .recall .ensures) _
+    (at-node .node .given .1) (at-if2 .if2 .left) _ (at-same .same .ensures) (at-if3 .if3 .left) _ (at-cut .cut .ensures) (at-if4 .if4 .left) _
+    (at-allowed .allowed .ensures) _ (at-over .over .ensures) (at-if5 .if5 .left) (c .if6 .taken)
 
 pub run-spec : {M : Type 1} → statement M
 run-spec =

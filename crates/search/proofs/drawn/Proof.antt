@@ -33,8 +33,11 @@ same-length-2 c = search needs
 
 returns-2 : tie.Need-returns-2
 returns-2 c =
-    let s = c .before .before .before .before .before .before .before .before .before in
-    drawn-is (s .args .setup) (s .args .table .now) (s .args .prices .now) (s .pre .0) (s .args .p) (s .args .f) (s .pre .1 .1 .0) _ (s .pre .1 .0) (c .before .before .before .count-window .ensures) (omega (arith, c .struct-known .given)) (c .before .before .before .before .before .if1 .left)
+    let at-count-window = c .before .before .before in
+    let at-if1 = at-count-window .before .before in
+    let b9 = at-if1 .before .before .before .before in
+    let s = b9 in
+    drawn-is (s .args .setup) (s .args .table .now) (s .args .prices .now) (s .pre .0) (s .args .p) (s .args .f) (s .pre .1 .1 .0) _ (s .pre .1 .0) (at-count-window .count-window .ensures) (omega (arith, c .struct-known .given)) (at-if1 .if1 .left)
 
 pub drawn-spec : {M : Type 1} → statement M
 drawn-spec =

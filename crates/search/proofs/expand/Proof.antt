@@ -55,11 +55,14 @@ same-length-3 c = search needs
 
 returns : tie.Need-returns
 returns c =
-    let s = c .before .before .before .before .before .before .before .before .before .before .before .before .before .before .before .before .before .before .before .before .before .before .before .before in
+    let at-offers = c .before .before .before .before .before .before in
+    let at-steps-of = at-offers .before .before .before .before .before .before .before .before .before .before in
+    let b24 = at-steps-of .before .before .before .before .before .before .before .before in
+    let s = b24 in
     let a = s .args in
     expanded-all (questionOf (a .setup) (a .table .now) (a .prices .now)) (s .pre .1 .1 .1 .1 .0 .bounds) (a .held) (a .p) (s .pre .1 .1 .1 .1 .1 .0) (a .last) _ _ _
-    (c .before .before .before .before .before .before .before .before .before .before .before .before .before .before .before .before .steps-of .ensures) _ _ _ _ _ _ _
-    (c .before .before .before .before .before .before .offers .ensures)
+    (at-steps-of .steps-of .ensures) _ _ _ _ _ _ _
+    (at-offers .offers .ensures)
 
 pub expand-spec : {M : Type 1} → statement M
 expand-spec =

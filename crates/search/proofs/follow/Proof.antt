@@ -19,7 +19,10 @@ follow-requires : tie.Need-follow-requires
 follow-requires c κs = ((c .before .before .before .before .pre .0 .step, c .before .before .before .before .pre .0 .is, c .before .before .before .before .pre .0 .doable), (_, (_, c .before .before .before .before .pre .1 .1)))
 
 returns : tie.Need-returns
-returns c = followed (c .before .before .before .before .before .args .setup) (c .before .before .before .before .before .args .table .now) (c .before .before .before .before .before .args .prices .now) (c .before .before .before .before .before .args .state) (c .before .before .before .before .before .args .code) (c .follow .result) (c .before .before .before .before .before .pre .0) (c .follow .ensures (c .before .before .before .before .before .pre .0 .step) _ _ (c .before .before .before .before .before .pre .0 .is) (c .before .before .before .before .before .pre .0 .doable) (c .before .before .before .before .before .pre .1 .1))
+returns c =
+    let s = c .before .before .before .before .before in
+    followed (s .args .setup) (s .args .table .now) (s .args .prices .now) (s .args .state) (s .args .code) (c .follow .result) (s .pre .0)
+    (c .follow .ensures (s .pre .0 .step) _ _ (s .pre .0 .is) (s .pre .0 .doable) (s .pre .1 .1))
 
 pub follow-spec : {M : Type 1} → statement M
 follow-spec =

@@ -34,13 +34,26 @@ offer-requires : tie.Need-offer-requires Inv-loop μ-loop
 offer-requires c κs = (search needs, (search needs, (search offer-nodes, (search offer-list, search needs))))
 
 add-i : tie.Need-add-i Inv-loop μ-loop
-add-i c = omega (arith, c .before .before .before .before .before .before .before .before .before .before .before .before .loop-test .taken, c .before .before .before .before .before .before .before .before .before .before .before .before .before .before .before .before .before .before .before .before .before .fits .n .fits)
+add-i c =
+    let at-loop-test = c .before .before .before .before .before .before .before .before .before .before .before .before in
+    let at-fits = at-loop-test .before .before .before .before .before .before .before .before .before in
+    omega (arith, at-loop-test .loop-test .taken, at-fits .fits .n .fits)
 
 loop-less : tie.Need-loop-less Inv-loop μ-loop
 loop-less c = omega (arith, c .before .before .before .before .before .before .before .before .before .before .before .before .loop-test .taken)
 
 loop-again : tie.Need-loop-again Inv-loop μ-loop
-loop-again c = offers-again _ _ _ _ _ _ _ _ _ _ _ _ _ _ (c .before .before .before .before .before .before .before .before .before .before .before .before .before .loop .inv) _ _ _ _ _ (c .before .before .before .before .before .before .before .before .before .before .before .before .loop-test .taken) (c .before .before .before .before .before .before .before .before .before .before .before .before .before .before .before .before .before .before .before .before .before .pre .1 .1 .1 .1 .1 .0) (c .before .before .before .before .before .before .before .before .before .before .follow .ensures) (c .before .before .before .before .before .before .offer .ensures) (c .before .before .before .before .before .nodes .given) (c .before .before .before .heads .given) (c .before .list .given)
+loop-again c =
+    let at-list = c .before in
+    let at-heads = at-list .before .before in
+    let at-nodes = at-heads .before .before in
+    let at-offer = at-nodes .before in
+    let at-follow = at-offer .before .before .before .before in
+    let at-loop-test = at-follow .before .before in
+    let at-loop = at-loop-test .before in
+    let s = at-loop .before .before .before .before .before .before .before .before in
+    offers-again _ _ _ _ _ _ _ _ _ _ _ _ _ _ (at-loop .loop .inv) _ _ _ _ _ (at-loop-test .loop-test .taken) (s .pre .1 .1 .1 .1 .1 .0)
+    (at-follow .follow .ensures) (at-offer .offer .ensures) (at-nodes .nodes .given) (at-heads .heads .given) (at-list .list .given)
 
 same-length : tie.Need-same-length Inv-loop μ-loop
 same-length c = search needs

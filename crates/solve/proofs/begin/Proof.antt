@@ -32,7 +32,15 @@ same-length-3 : tie.Need-same-length-3
 same-length-3 c = search needs
 
 returns : tie.Need-returns
-returns c = begun (questionOf (c .before .before .before .before .before .before .before .before .before .before .before .before .before .before .before .before .before .before .before .args .setup) (c .before .before .before .before .before .before .before .before .before .before .before .before .before .before .before .before .before .before .before .args .table .now) (c .before .before .before .before .before .before .before .before .before .before .before .before .before .before .before .before .before .before .before .args .prices .now)) (c .before .before .before .before .before .before .before .before .before .before .before .before .before .before .before .before .before .before .before .args .ask) _ _ _ _ _ (c .before .before .before .before .before .before .before .before .before .before .before .first-node .result) (c .before .before .before .before .before .before .before .before .before .before .before .before .estimate .result) _ (c .before .before .before .before .before .before .before .before .before .before .before .first-node .ensures .0) (c .before .before .before .before .before .before .before .before .before .before .before .before .estimate .ensures) (c .before .before .before .before .before .before .before .before .store .ensures) (c .before .before .push .ensures)
+returns c =
+    let at-push = c .before .before in
+    let at-store = at-push .before .before .before .before .before .before in
+    let at-first-node = at-store .before .before .before in
+    let at-estimate = at-first-node .before in
+    let s = at-estimate .before .before .before .before .before .before .before in
+    begun (questionOf (s .args .setup) (s .args .table .now) (s .args .prices .now)) (s .args .ask) _ _ _ _ _ (at-first-node .first-node .result)
+    (at-estimate .estimate .result) _ (at-first-node .first-node .ensures .0) (at-estimate .estimate .ensures) (at-store .store .ensures)
+    (at-push .push .ensures)
 
 pub begin-spec : {M : Type 1} → statement M
 begin-spec =

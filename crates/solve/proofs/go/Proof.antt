@@ -10,10 +10,30 @@ use Rattle.run.proofs.run.Reads as run-reads
 use Rattle.solve.proofs.begin.Reads as begin-reads
 
 begin-requires : tie.Need-begin-requires
-begin-requires c κs = (c .before .before .before .before .before .before .before .before .pre .0, (omega (arith, c .before .before .before .before .before .before .before .before .pre .1 .0 .plain-nodes), (omega (arith, c .before .before .before .before .before .before .before .before .pre .1 .0 .plain-list), ((c .before .before .before .before .before .before .before .before .pre .1 .1 .0), window-held _ ((c .before .before .before .before .before .before .before .before .pre .1 .1 .0) .bounds) _ (c .before .before .before .before .before .before .before .before .pre .1 .1 .1)))))
+begin-requires c κs =
+    let s = c .before .before .before .before .before .before .before .before in (
+      s .pre .0,
+      (
+        omega (arith, s .pre .1 .0 .plain-nodes),
+        (omega (arith, s .pre .1 .0 .plain-list), ((s .pre .1 .1 .0), window-held _ ((s .pre .1 .1 .0) .bounds) _ (s .pre .1 .1 .1))),
+      ),
+    )
 
 run-requires : tie.Need-run-requires
-run-requires c κs = ((c .before .before .before .before .before .before .before .before .before .begin .ensures) .kept, ((c .before .before .before .before .before .before .before .before .before .begin .ensures) .piled, (roomy-still _ _ _ _ _ (c .before .before .before .before .before .before .before .before .before .before .before .before .before .before .before .before .before .before .pre .1 .0) (c .before .before .before .before .before .before .before .before .nodes .given) (c .before .before .before .before .list .given), (c .before .before .before .before .before .before .before .before .before .before .before .before .before .before .before .before .before .before .pre .1 .1 .0, start-waits _ _ _ _ _ _ (c .before .before .before .before .before .before .before .before .before .begin .ensures) (c .before .before .before .before .before .before .before .before .before .before .before .before .before .before .before .before .before .before .pre .1 .1 .1)))))
+run-requires c κs =
+    let at-list = c .before .before .before .before in
+    let at-nodes = at-list .before .before .before .before in
+    let at-begin = at-nodes .before in
+    let s = at-begin .before .before .before .before .before .before .before .before .before in (
+      (at-begin .begin .ensures) .kept,
+      (
+        (at-begin .begin .ensures) .piled,
+        (
+          roomy-still _ _ _ _ _ (s .pre .1 .0) (at-nodes .nodes .given) (at-list .list .given),
+          (s .pre .1 .1 .0, start-waits _ _ _ _ _ _ (at-begin .begin .ensures) (s .pre .1 .1 .1)),
+        ),
+      ),
+    )
 
 same-length : tie.Need-same-length
 same-length c = search needs

@@ -9,10 +9,15 @@ use Rattle.solve.proofs.go.Reads as go-reads
 use Rattle.solve.proofs.read_steps.Reads as read-steps-reads
 
 go-requires : tie.Need-go-requires
-go-requires c κs = (c .before .before .before .before .before .before .before .before .before .pre .0, (c .before .before .before .before .before .before .before .before .before .pre .1 .0, (c .before .before .before .before .before .before .before .before .before .pre .1 .1 .0, c .before .before .before .before .before .before .before .before .before .pre .1 .1 .1 .0)))
+go-requires c κs =
+    let s = c .before .before .before .before .before .before .before .before .before in
+    (s .pre .0, (s .pre .1 .0, (s .pre .1 .1 .0, s .pre .1 .1 .1 .0)))
 
 read-steps-requires : tie.Need-read-steps-requires
-read-steps-requires c κs = ((c .before .before .before .before .before .before .before .before .before .go .ensures) .kept, omega (arith, (c .before .before .before .before .before .before .before .before .before .go .ensures) .few, c .before .before .before .before .before .before .before .before .before .before .before .before .before .before .before .before .before .before .before .pre .1 .1 .1 .1))
+read-steps-requires c κs =
+    let at-go = c .before .before .before .before .before .before .before .before .before in
+    let s = at-go .before .before .before .before .before .before .before .before .before .before in
+    ((at-go .go .ensures) .kept, omega (arith, (at-go .go .ensures) .few, s .pre .1 .1 .1 .1))
 
 same-length : tie.Need-same-length
 same-length c = search needs

@@ -24,7 +24,22 @@ slice-aggregate-search-table : tie.Need-slice-aggregate-search-table
 slice-aggregate-search-table c = search needs
 
 search-table-requires : tie.Need-search-table-requires
-search-table-requires c κs = (c .before .before .before .before .before .before .before .before .before .before .before .before .before .before .before .before .before .before .pre .0, (c .before .before .before .before .before .before .before .before .before .before .before .before .before .before .before .before .before .before .pre .1 .0, ((c .before .before .before .before .before .before .before .before .prepare .ensures) .ready, (window-of _ _ _ _ _ _ _ _ (c .before .before .before .before .before .before .before .before .prepare .ensures) (c .before .before .before .before .before .before .before .before .before .before .before .before .before .before .before .before .before .before .pre .1 .1 .1 .0) (c .before .before .before .before .before .before .from-ids .ensures), (c .before .before .before .before .before .before .before .before .before .before .before .before .before .before .before .before .before .before .pre .1 .1 .1 .1 .0, c .before .before .before .before .before .before .before .before .before .before .before .before .before .before .before .before .before .before .pre .1 .1 .1 .1 .1)))))
+search-table-requires c κs =
+    let at-from-ids = c .before .before .before .before .before .before in
+    let at-prepare = at-from-ids .before .before in
+    let s = at-prepare .before .before .before .before .before .before .before .before .before .before in (
+      s .pre .0,
+      (
+        s .pre .1 .0,
+        (
+          (at-prepare .prepare .ensures) .ready,
+          (
+            window-of _ _ _ _ _ _ _ _ (at-prepare .prepare .ensures) (s .pre .1 .1 .1 .0) (at-from-ids .from-ids .ensures),
+            (s .pre .1 .1 .1 .1 .0, s .pre .1 .1 .1 .1 .1),
+          ),
+        ),
+      ),
+    )
 
 same-length : tie.Need-same-length
 same-length c = search needs
@@ -39,7 +54,13 @@ same-length-4 : tie.Need-same-length-4
 same-length-4 c = search needs
 
 returns : tie.Need-returns
-returns c = searched-from _ _ _ _ _ _ _ _ _ _ _ _ _ _ _ (c .before .before .before .before .before .before .before .before .before .before .before .before .before .before .before .before .before .prepare .ensures) (c .before .before .before .before .before .before .before .before .before .before .before .before .before .before .before .from-ids .ensures) (c .before .before .before .before .before .before .before .before .before .before .before .before .before .before .from-ids2 .ensures) (c .before .before .before .before .before .before .before .before .search-table .ensures)
+returns c =
+    let at-search-table = c .before .before .before .before .before .before .before .before in
+    let at-from-ids2 = at-search-table .before .before .before .before .before .before in
+    let at-from-ids = at-from-ids2 .before in
+    let at-prepare = at-from-ids .before .before in
+    searched-from _ _ _ _ _ _ _ _ _ _ _ _ _ _ _ (at-prepare .prepare .ensures) (at-from-ids .from-ids .ensures) (at-from-ids2 .from-ids2 .ensures)
+    (at-search-table .search-table .ensures)
 
 pub search-from-spec : {M : Type 1} → statement M
 search-from-spec =

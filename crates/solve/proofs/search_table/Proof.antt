@@ -12,7 +12,9 @@ packed-requires : tie.Need-packed-requires
 packed-requires c κs = search needs
 
 run-and-read-requires : tie.Need-run-and-read-requires
-run-and-read-requires c κs = (c .before .before .before .before .before .before .before .before .before .before .before .pre .0, (c .before .before .before .before .before .before .before .before .before .before .before .pre .1 .0, (c .before .before .before .before .before .before .before .before .before .before .before .pre .1 .1 .0, (c .before .before .before .before .before .before .before .before .before .before .before .pre .1 .1 .1 .0, c .before .before .before .before .before .before .before .before .before .before .before .pre .1 .1 .1 .1 .0))))
+run-and-read-requires c κs =
+    let s = c .before .before .before .before .before .before .before .before .before .before .before in
+    (s .pre .0, (s .pre .1 .0, (s .pre .1 .1 .0, (s .pre .1 .1 .1 .0, s .pre .1 .1 .1 .1 .0))))
 
 outcome-of-requires : tie.Need-outcome-of-requires
 outcome-of-requires c κs = placed-all _ _ _ _ _ _ _ _ (c .before .before .before .before .before .before .before .before .before .before .run-and-read .ensures)
@@ -30,7 +32,12 @@ same-length-4 : tie.Need-same-length-4
 same-length-4 c = search needs
 
 returns : tie.Need-returns
-returns c = searched-all _ _ _ ((c .before .before .before .before .before .before .before .before .before .before .before .before .before .before .before .before .before .before .before .before .before .before .before .pre .1 .1 .0) .bounds) ((c .before .before .before .before .before .before .before .before .before .before .before .before .before .before .before .before .before .before .before .before .before .before .before .pre .1 .1 .0) .listed) (c .before .before .before .before .before .before .before .before .before .before .before .before .before .before .before .before .before .before .before .before .before .before .before .pre .1 .1 .1 .1 .1) _ _ (c .before .before .before .before .before .before .before .before .before .before .before .before .packed .ensures) _ _ _ _ (c .before .before .before .before .before .before .before .before .before .before .before .run-and-read .ensures) _ (c .outcome-of .ensures)
+returns c =
+    let at-run-and-read = c .before .before .before .before .before .before .before .before .before .before .before in
+    let at-packed = at-run-and-read .before in
+    let s = at-packed .before .before .before .before .before .before .before .before .before .before .before in
+    searched-all _ _ _ ((s .pre .1 .1 .0) .bounds) ((s .pre .1 .1 .0) .listed) (s .pre .1 .1 .1 .1 .1) _ _ (at-packed .packed .ensures) _ _ _ _
+    (at-run-and-read .run-and-read .ensures) _ (c .outcome-of .ensures)
 
 pub search-table-spec : {M : Type 1} → statement M
 search-table-spec =

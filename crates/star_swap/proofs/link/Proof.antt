@@ -45,7 +45,14 @@ loop-less : tie.Need-loop-less Inv-loop μ-loop
 loop-less c = search needs
 
 loop-again : tie.Need-loop-again Inv-loop μ-loop
-loop-again c = (linked-wrong _ _ _ _ (c .before .before .before .before .before .before .pre .0) _ (c .before .before .before .before .before .loop .inv .1) (c .before .before .before .before .before .loop .inv .2) (c .before .before .before .before .before .loop .inv .0) (c .before .if1 .taken), omega arith, omega arith)
+loop-again c =
+    let at-if1 = c .before in
+    let at-loop = at-if1 .before .before .before .before in
+    let s = at-loop .before in (
+      linked-wrong _ _ _ _ (s .pre .0) _ (at-loop .loop .inv .1) (at-loop .loop .inv .2) (at-loop .loop .inv .0) (at-if1 .if1 .taken),
+      omega arith,
+      omega arith,
+    )
 
 loop-less-2 : tie.Need-loop-less-2 Inv-loop μ-loop
 loop-less-2 c = search needs

@@ -53,7 +53,11 @@ loop-holds c = (
 )
 
 trail-requires-2 : tie.Need-trail-requires-2 Inv-loop μ-loop
-trail-requires-2 c κs = key-ready _ _ (c .before .before .before .before .before .before .before .before .before .before .before .before .before .before .before .before .before .before .before .before .before .before .before .before .pre .0) _ _ _ _ _ _ (c .before .before .before .before .loop .inv .0) (omega (arith, c .before .before .before .loop-test .taken)) _ (c .before .before .before .before .loop .inv .1)
+trail-requires-2 c κs =
+    let at-loop-test = c .before .before .before in
+    let at-loop = at-loop-test .before in
+    let s = at-loop .before .before .before .before .before .before .before .before .before .before .before .before .before .before .before .before .before .before .before .before in
+    key-ready _ _ (s .pre .0) _ _ _ _ _ _ (at-loop .loop .inv .0) (omega (arith, at-loop-test .loop-test .taken)) _ (at-loop .loop .inv .1)
 
 array-read-enter : tie.Need-array-read-enter Inv-loop μ-loop
 array-read-enter c = search needs
@@ -62,16 +66,50 @@ swap-code-requires : tie.Need-swap-code-requires Inv-loop μ-loop
 swap-code-requires c κs = search needs
 
 mul-steps : tie.Need-mul-steps Inv-loop μ-loop
-mul-steps c = omega (arith, room _ _ (c .before .before .before .before .before .before .before .before .before .before .before .before .before .before .before .before .before .before .before .before .before .before .before .before .before .before .before .pre .0) _ _ _ _ _ _ (c .before .before .before .before .before .before .before .loop .inv .0) (omega (arith, c .before .before .before .before .before .before .loop-test .taken)) _ _ _ (c .before .before .trail2 .ensures) (c .before .if2 .taken), c .before .before .before .before .before .before .before .loop .inv .2, c .before .before .before .before .before .before .before .before .before .before .before .before .before .before .before .before .before .before .before .before .before .before .before .before .before .before .before .pre .1, c .before .before .before .before .before .before .before .before .before .before .before .before .emit .ensures .1 .len, length-take-le (c .before .before .before .before .before .before .before .before .before .before .before .before .before .before .before .before .before .before .before .before .before .before .before .before .before .before .before .args .start) (c .before .before .before .before .before .before .before .before .before .before .before .before .emit .last .1 .1 .1 .0) (omega (arith, c .before .before .before .before .before .before .before .before .before .before .before .before .before .before .before .before .before .before .before .before .before .before .before .before .before .before .before .pre .1, c .before .before .before .before .before .before .before .before .before .before .before .before .emit .ensures .1 .len)), c .before .before .before .before .before .before .before .before .before .before .before .before .before .before .before .before .before .before .before .before .before .before .before .before .before .before .before .good .1 .1 .1 .0 .1)
+mul-steps c =
+    let at-if2 = c .before in
+    let at-trail2 = at-if2 .before in
+    let at-loop-test = at-trail2 .before .before .before .before in
+    let at-loop = at-loop-test .before in
+    let at-emit = at-loop .before .before .before .before .before in
+    let s = at-emit .before .before .before .before .before .before .before .before .before .before .before .before .before .before .before in
+    omega
+    (arith, room _ _ (s .pre .0) _ _ _ _ _ _ (at-loop .loop .inv .0) (omega (arith, at-loop-test .loop-test .taken)) _ _ _ (at-trail2 .trail2 .ensures) (at-if2 .if2 .taken), at-loop .loop .inv .2, s .pre .1, at-emit .emit .ensures .1 .len, length-take-le (s .args .start) (at-emit .emit .last .1 .1 .1 .0) (omega (arith, s .pre .1, at-emit .emit .ensures .1 .len)), s .good .1 .1 .1 .0 .1)
 
 slice-write-steps : tie.Need-slice-write-steps Inv-loop μ-loop
-slice-write-steps c = omega (arith, room _ _ (c .before .before .before .before .before .before .before .before .before .before .before .before .before .before .before .before .before .before .before .before .before .before .before .before .before .before .before .pre .0) _ _ _ _ _ _ (c .before .before .before .before .before .before .before .loop .inv .0) (omega (arith, c .before .before .before .before .before .before .loop-test .taken)) _ _ _ (c .before .before .trail2 .ensures) (c .before .if2 .taken), c .before .before .before .before .before .before .before .loop .inv .2, c .before .before .before .before .before .before .before .before .before .before .before .before .before .before .before .before .before .before .before .before .before .before .before .before .before .before .before .pre .1, c .before .before .before .before .before .before .before .before .before .before .before .before .emit .ensures .1 .len, length-take-le (c .before .before .before .before .before .before .before .before .before .before .before .before .before .before .before .before .before .before .before .before .before .before .before .before .before .before .before .args .start) (c .before .before .before .before .before .before .before .before .before .before .before .before .emit .last .1 .1 .1 .0) (omega (arith, c .before .before .before .before .before .before .before .before .before .before .before .before .before .before .before .before .before .before .before .before .before .before .before .before .before .before .before .pre .1, c .before .before .before .before .before .before .before .before .before .before .before .before .emit .ensures .1 .len)))
+slice-write-steps c =
+    let at-if2 = c .before in
+    let at-trail2 = at-if2 .before in
+    let at-loop-test = at-trail2 .before .before .before .before in
+    let at-loop = at-loop-test .before in
+    let at-emit = at-loop .before .before .before .before .before in
+    let s = at-emit .before .before .before .before .before .before .before .before .before .before .before .before .before .before .before in
+    omega
+    (arith, room _ _ (s .pre .0) _ _ _ _ _ _ (at-loop .loop .inv .0) (omega (arith, at-loop-test .loop-test .taken)) _ _ _ (at-trail2 .trail2 .ensures) (at-if2 .if2 .taken), at-loop .loop .inv .2, s .pre .1, at-emit .emit .ensures .1 .len, length-take-le (s .args .start) (at-emit .emit .last .1 .1 .1 .0) (omega (arith, s .pre .1, at-emit .emit .ensures .1 .len)))
 
 add-emit : tie.Need-add-emit Inv-loop μ-loop
-add-emit c = omega (arith, room _ _ (c .before .before .before .before .before .before .before .before .before .before .before .before .before .before .before .before .before .before .before .before .before .before .before .before .before .before .before .before .pre .0) _ _ _ _ _ _ (c .before .before .before .before .before .before .before .before .loop .inv .0) (omega (arith, c .before .before .before .before .before .before .before .loop-test .taken)) _ _ _ (c .before .before .before .trail2 .ensures) (c .before .before .if2 .taken), c .before .before .before .before .before .before .before .before .loop .inv .2, c .before .before .before .before .before .before .before .before .before .before .before .before .before .before .before .before .before .before .before .before .before .before .before .before .before .before .before .before .pre .1, c .before .before .before .before .before .before .before .before .before .before .before .before .before .emit .ensures .1 .len, length-take-le (c .before .before .before .before .before .before .before .before .before .before .before .before .before .before .before .before .before .before .before .before .before .before .before .before .before .before .before .before .args .start) (c .before .before .before .before .before .before .before .before .before .before .before .before .before .emit .last .1 .1 .1 .0) (omega (arith, c .before .before .before .before .before .before .before .before .before .before .before .before .before .before .before .before .before .before .before .before .before .before .before .before .before .before .before .before .pre .1, c .before .before .before .before .before .before .before .before .before .before .before .before .before .emit .ensures .1 .len)), c .before .before .before .before .before .before .before .before .before .before .before .before .before .before .before .before .before .before .before .before .before .before .before .before .before .before .before .before .good .1 .1 .1 .0 .0)
+add-emit c =
+    let at-if2 = c .before .before in
+    let at-trail2 = at-if2 .before in
+    let at-loop-test = at-trail2 .before .before .before .before in
+    let at-loop = at-loop-test .before in
+    let at-emit = at-loop .before .before .before .before .before in
+    let s = at-emit .before .before .before .before .before .before .before .before .before .before .before .before .before .before .before in
+    omega
+    (arith, room _ _ (s .pre .0) _ _ _ _ _ _ (at-loop .loop .inv .0) (omega (arith, at-loop-test .loop-test .taken)) _ _ _ (at-trail2 .trail2 .ensures) (at-if2 .if2 .taken), at-loop .loop .inv .2, s .pre .1, at-emit .emit .ensures .1 .len, length-take-le (s .args .start) (at-emit .emit .last .1 .1 .1 .0) (omega (arith, s .pre .1, at-emit .emit .ensures .1 .len)), s .good .1 .1 .1 .0 .0)
 
 emit-requires-2 : tie.Need-emit-requires-2 Inv-loop μ-loop
-emit-requires-2 c κs = (c .before .before .before .before .trail2 .ensures .few, simp length-set (omega (arith, room _ _ (c .before .before .before .before .before .before .before .before .before .before .before .before .before .before .before .before .before .before .before .before .before .before .before .before .before .before .before .before .before .pre .0) _ _ _ _ _ _ (c .before .before .before .before .before .before .before .before .before .loop .inv .0) (omega (arith, c .before .before .before .before .before .before .before .before .loop-test .taken)) _ _ _ (c .before .before .before .before .trail2 .ensures) (c .before .before .before .if2 .taken), c .before .before .before .before .before .before .before .before .before .loop .inv .2, c .before .before .before .before .before .before .before .before .before .before .before .before .before .before .before .before .before .before .before .before .before .before .before .before .before .before .before .before .before .pre .1, c .before .before .before .before .before .before .before .before .before .before .before .before .before .before .emit .ensures .1 .len, length-take-le (c .before .before .before .before .before .before .before .before .before .before .before .before .before .before .before .before .before .before .before .before .before .before .before .before .before .before .before .before .before .args .start) (c .before .before .before .before .before .before .before .before .before .before .before .before .before .before .emit .last .1 .1 .1 .0) (omega (arith, c .before .before .before .before .before .before .before .before .before .before .before .before .before .before .before .before .before .before .before .before .before .before .before .before .before .before .before .before .before .pre .1, c .before .before .before .before .before .before .before .before .before .before .before .before .before .before .emit .ensures .1 .len)))))
+emit-requires-2 c κs =
+    let at-if2 = c .before .before .before in
+    let at-trail2 = at-if2 .before in
+    let at-loop-test = at-trail2 .before .before .before .before in
+    let at-loop = at-loop-test .before in
+    let at-emit = at-loop .before .before .before .before .before in
+    let s = at-emit .before .before .before .before .before .before .before .before .before .before .before .before .before .before .before in (
+      at-trail2 .trail2 .ensures .few,
+      simp length-set
+          (omega (arith, room _ _ (s .pre .0) _ _ _ _ _ _ (at-loop .loop .inv .0) (omega (arith, at-loop-test .loop-test .taken)) _ _ _ (at-trail2 .trail2 .ensures) (at-if2 .if2 .taken), at-loop .loop .inv .2, s .pre .1, at-emit .emit .ensures .1 .len, length-take-le (s .args .start) (at-emit .emit .last .1 .1 .1 .0) (omega (arith, s .pre .1, at-emit .emit .ensures .1 .len)))),
+    )
 
 add-key : tie.Need-add-key Inv-loop μ-loop
 add-key c = search needs
@@ -81,22 +119,27 @@ loop-less c = search needs
 
 loop-again : tie.Need-loop-again Inv-loop μ-loop
 loop-again c =
+    let at-trail2 = c .before in
+    let at-loop-test = at-trail2 .before .before .before .before in
+    let at-loop = at-loop-test .before in
+    let at-emit = at-loop .before .before .before .before .before in
+    let s = at-emit .before .before .before .before .before .before .before .before .before .before .before .before .before .before .before in
     ⊎-elim
     (λ w.
     let v = rw (w .1 .ensures) at (w .4 .ensures .1) in (
       rw (w .7, w .8 ∙ w .4 .ensures .0)
-          (one-out _ _ (c .before .before .before .before .before .before .before .before .before .before .before .before .before .before .before .before .before .before .before .before .before .before .before .before .before .before .pre .0) _ _ _ _ _ _ (c .before .before .before .before .before .before .loop .inv .0) (omega (arith, c .before .before .before .before .before .loop-test .taken)) _ _ _ (c .before .trail2 .ensures) _ (w .0 .taken) (omega (arith, c .before .before .before .before .before .before .loop .inv .2, c .before .before .before .before .before .before .before .before .before .before .before .before .before .before .before .before .before .before .before .before .before .before .before .before .before .before .pre .1, c .before .before .before .before .before .before .before .before .before .before .before .emit .ensures .1 .len, length-take-le (c .before .before .before .before .before .before .before .before .before .before .before .before .before .before .before .before .before .before .before .before .before .before .before .before .before .before .args .start) (c .before .before .before .before .before .before .before .before .before .before .before .emit .last .1 .1 .1 .0) (omega (arith, c .before .before .before .before .before .before .before .before .before .before .before .before .before .before .before .before .before .before .before .before .before .before .before .before .before .before .pre .1, c .before .before .before .before .before .before .before .before .before .before .before .emit .ensures .1 .len)))) v),
-      c .before .trail2 .ensures .out-length,
-      ap length (w .7) ∙ w .4 .ensures .1 .len ∙ simp length-set (c .before .before .before .before .before .before .loop .inv .2),
-      rw (w .7, w .8 ∙ w .4 .ensures .0) (one-rest _ _ _ _ _ _ (c .before .before .before .before .before .before .loop .inv .3) v),
-      omega (arith, w .8, w .4 .ensures .0, c .before .before .before .before .before .before .loop .inv .4),
+          (one-out _ _ (s .pre .0) _ _ _ _ _ _ (at-loop .loop .inv .0) (omega (arith, at-loop-test .loop-test .taken)) _ _ _ (at-trail2 .trail2 .ensures) _ (w .0 .taken) (omega (arith, at-loop .loop .inv .2, s .pre .1, at-emit .emit .ensures .1 .len, length-take-le (s .args .start) (at-emit .emit .last .1 .1 .1 .0) (omega (arith, s .pre .1, at-emit .emit .ensures .1 .len)))) v),
+      at-trail2 .trail2 .ensures .out-length,
+      ap length (w .7) ∙ w .4 .ensures .1 .len ∙ simp length-set (at-loop .loop .inv .2),
+      rw (w .7, w .8 ∙ w .4 .ensures .0) (one-rest _ _ _ _ _ _ (at-loop .loop .inv .3) v),
+      omega (arith, w .8, w .4 .ensures .0, at-loop .loop .inv .4),
     ))
     (λ w. (
-      rw (w .1, w .2) (none-out _ _ (c .before .before .before .before .before .before .before .before .before .before .before .before .before .before .before .before .before .before .before .before .before .before .before .before .before .before .pre .0) _ _ _ _ _ _ (c .before .before .before .before .before .before .loop .inv .0) (omega (arith, c .before .before .before .before .before .loop-test .taken)) _ _ _ (c .before .trail2 .ensures) (omega (arith, w .0 .left))),
-      c .before .trail2 .ensures .out-length,
-      ap length (w .1) ∙ c .before .before .before .before .before .before .loop .inv .2,
-      rw (w .1, w .2) (c .before .before .before .before .before .before .loop .inv .3),
-      omega (arith, w .2, c .before .before .before .before .before .before .loop .inv .4),
+      rw (w .1, w .2) (none-out _ _ (s .pre .0) _ _ _ _ _ _ (at-loop .loop .inv .0) (omega (arith, at-loop-test .loop-test .taken)) _ _ _ (at-trail2 .trail2 .ensures) (omega (arith, w .0 .left))),
+      at-trail2 .trail2 .ensures .out-length,
+      ap length (w .1) ∙ at-loop .loop .inv .2,
+      rw (w .1, w .2) (at-loop .loop .inv .3),
+      omega (arith, w .2, at-loop .loop .inv .4),
     ))
     (c .if2 .came)
 
@@ -105,10 +148,13 @@ same-length c = c .before .loop .inv .2 ∙ c .before .before .before .before .b
 
 returns-2 : tie.Need-returns-2 Inv-loop μ-loop
 returns-2 c =
-    let e : drop (c .before .before .before .before .before .before .emit .result) (c .before .before .before .before .before .before .emit .last .1 .1 .1 .0) ≡ drop (c .before .before .before .before .before .before .emit .result) (c .before .before .before .before .before .before .before .before .before .before .before .before .before .before .before .before .before .before .before .before .before .args .steps .now) =
-    rw (c .before .before .before .before .before .before .emit .ensures .0) (c .before .before .before .before .before .before .emit .ensures .1 .rest) in
-    appended-end _ _ (c .before .before .before .before .before .before .before .before .before .before .before .before .before .before .before .before .before .before .before .before .before .pre .0) _ _ _ _ _ _ _ (omega (arith, c .before .before .before .before .before .before .before .before .before .before .before .before .before .before .before .before .before .before .before .before .before .pre .1)) (rw (emitted-prefix _ _ _ _ _ (omega (arith, c .before .before .before .before .before .before .before .before .before .before .before .before .before .before .before .before .before .before .before .before .before .pre .1)) (c .before .before .before .before .before .before .emit .ensures .1)) at (c .before .loop .inv .0)) (c .loop-test .left)
-    (c .before .loop .inv .3 ∙ drop-more _ _ _ _ (c .before .loop .inv .4) e)
+    let at-loop = c .before in
+    let at-emit = at-loop .before .before .before .before .before in
+    let s = at-emit .before .before .before .before .before .before .before .before .before .before .before .before .before .before .before in
+    let e : drop (at-emit .emit .result) (at-emit .emit .last .1 .1 .1 .0) ≡ drop (at-emit .emit .result) (s .args .steps .now) =
+    rw (at-emit .emit .ensures .0) (at-emit .emit .ensures .1 .rest) in
+    appended-end _ _ (s .pre .0) _ _ _ _ _ _ _ (omega (arith, s .pre .1)) (rw (emitted-prefix _ _ _ _ _ (omega (arith, s .pre .1)) (at-emit .emit .ensures .1)) at (at-loop .loop .inv .0)) (c .loop-test .left)
+    (at-loop .loop .inv .3 ∙ drop-more _ _ _ _ (at-loop .loop .inv .4) e)
 
 pub star-spec : {M : Type 1} → statement M
 star-spec =

@@ -49,8 +49,11 @@ loop-less c = search needs
 -- src/lib.rt:19:5
 loop-again : tie.Need-loop-again Inv-loop μ-loop
 loop-again c =
-    pop _ _ _ (c .before .before .before .before .before .pre .short) _ _ _ _ _ _ _ (c .before .before .before .before .loop .inv) (c .before .before .if1 .taken) _ (omega arith) _ (c .before .before .before .before .before .pre .start-key)
-    (key-start (c .before .before .before .before .before .args .cur .now) (c .before .before .before .before .before .args .start) _ _ (c .if3 .taken))
+    let at-if1 = c .before .before in
+    let at-loop = at-if1 .before .before in
+    let s = at-loop .before in
+    pop _ _ _ (s .pre .short) _ _ _ _ _ _ _ (at-loop .loop .inv) (at-if1 .if1 .taken) _ (omega arith) _ (s .pre .start-key)
+    (key-start (s .args .cur .now) (s .args .start) _ _ (c .if3 .taken))
 
 -- src/lib.rt:32:35
 sub-below : tie.Need-sub-below Inv-loop μ-loop
@@ -81,9 +84,12 @@ loop-less-2 c = search needs
 -- src/lib.rt:19:5
 loop-again-2 : tie.Need-loop-again-2 Inv-loop μ-loop
 loop-again-2 c =
-    pop _ _ _ (c .before .before .before .before .before .before .pre .short) _ _ _ _ _ _ _ (c .before .before .before .before .before .loop .inv) (c .before .before .before .if1 .taken) _ (omega arith) _
-    (c .before .before .before .before .before .before .pre .keys _ (shared-slice-read-key c))
-    (key-of (c .before .before .before .before .before .before .args .cur .now) (c .before .before .before .before .before .before .args .start) _ _ (omega arith))
+    let at-if1 = c .before .before .before in
+    let at-loop = at-if1 .before .before in
+    let s = at-loop .before in
+    pop _ _ _ (s .pre .short) _ _ _ _ _ _ _ (at-loop .loop .inv) (at-if1 .if1 .taken) _ (omega arith) _
+    (s .pre .keys _ (shared-slice-read-key c))
+    (key-of (s .args .cur .now) (s .args .start) _ _ (omega arith))
 
 arc-low-at : (c : tie.Else1 Inv-loop μ-loop) → getD (c .before .before .loop .head) (c .before .before .loop .key) 0 < length (c .before .before .before .args .cur .now)
 arc-low-at c =

@@ -24,7 +24,10 @@ write-keys-requires c κs = let s = c .before .before .before .before .before .b
 
 array-share-prefix-held : tie.Need-array-share-prefix-held
 array-share-prefix-held c =
-    omega (arith, c .before .before .before .len .ensures _ (c .before .before .before .before .before .before .before .before .before .pre .0 .window), ap length (c .before .write-keys .ensures), length-take (c .before .before .before .len .result) (c .before .write-keys .last .1 .1 .0))
+    let at-write-keys = c .before in
+    let at-len = at-write-keys .before .before in
+    let s = at-len .before .before .before .before .before .before in
+    omega (arith, at-len .len .ensures _ (s .pre .0 .window), ap length (at-write-keys .write-keys .ensures), length-take (at-len .len .result) (at-write-keys .write-keys .last .1 .1 .0))
 
 slice-aggregate-expand-keys : tie.Need-slice-aggregate-expand-keys
 slice-aggregate-expand-keys c = c .before .before .before .before .len .ensures _ (c .before .before .before .before .before .before .before .before .before .before .pre .0 .window) ∙ sym (ap length (c .before .before .write-keys .ensures))

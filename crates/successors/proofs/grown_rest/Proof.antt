@@ -64,7 +64,14 @@ same-length : tie.Need-same-length
 same-length c = search needs
 
 returns : tie.Need-returns
-returns c = added-grown _ _ _ _ _ (sym (c .before .before .before .before .before .before .before .before .before .before .before .before .before .before .before .before .before .before .before .may-grow .ensures) ∙ c .before .before .before .before .before .before .before .before .before .before .before .before .before .before .before .before .before .before .if1 .taken) (added-three _ _ _ _ _ _ _ (c .before .before .before .before .before .before .before .before .before .before .before .before .with-dups .ensures) (c .before .before .before .before .before .before .before .with-others .ensures) (c .before .before .with-loads .ensures))
+returns c =
+    let at-with-loads = c .before .before in
+    let at-with-others = at-with-loads .before .before .before .before .before in
+    let at-with-dups = at-with-others .before .before .before .before .before in
+    let at-if1 = at-with-dups .before .before .before .before .before .before in
+    let at-may-grow = at-if1 .before in
+    added-grown _ _ _ _ _ (sym (at-may-grow .may-grow .ensures) ∙ at-if1 .if1 .taken)
+    (added-three _ _ _ _ _ _ _ (at-with-dups .with-dups .ensures) (at-with-others .with-others .ensures) (at-with-loads .with-loads .ensures))
 
 returns-2 : tie.Need-returns-2
 returns-2 c = added-full _ _ _ _ (sym (c .before .may-grow .ensures) ∙ c .if1 .left)

@@ -40,13 +40,29 @@ add-put-keys : tie.Need-add-put-keys
 add-put-keys c = search needs
 
 put-keys-requires : tie.Need-put-keys-requires
-put-keys-requires c κs = omega (arith, c .before .before .before .before .before .before .before .before .before .before .before .before .before .before .before .before .before .before .before .before .before .before .before .pre .0, c .before .before .before .before .before .before .before .before .before .before .before .before .put .ensures .long, c .before .before .before .before .before .before .before .put2 .ensures .long, c .before .before .before .put3 .ensures .long, (c .before .before .before .before .before .before .before .before .before .before .before .before .before .before .before .before .before .before .before .before .before .before .before .pre .1) .bounds .goal)
+put-keys-requires c κs =
+    let at-put3 = c .before .before .before in
+    let at-put2 = at-put3 .before .before .before .before in
+    let at-put = at-put2 .before .before .before .before .before in
+    let s = at-put .before .before .before .before .before .before .before .before .before .before .before in
+    omega (arith, s .pre .0, at-put .put .ensures .long, at-put2 .put2 .ensures .long, at-put3 .put3 .ensures .long, (s .pre .1) .bounds .goal)
 
 same-length : tie.Need-same-length
 same-length c = search needs
 
 returns : tie.Need-returns
-returns c = all-prepared _ _ _ _ (c .before .before .before .before .before .before .before .before .before .before .before .before .before .before .before .before .before .before .before .before .before .before .before .before .before .before .pre .1) _ _ _ _ _ _ _ _ _ (c .before .before .before .before .before .before .before .before .before .before .before .before .before .before .before .put .ensures) (c .before .before .before .before .before .before .before .before .before .before .put2 .ensures) (c .before .before .before .before .before .before .put3 .ensures) (c .before .before .put-keys .ensures .0) (c .before .before .before .before .before .before .before .before .before .before .before .before .before .before .before .before .before .before .before .before .before .before .before .before .before .before .pre .0) (c .before .before .put-keys .ensures .1) (c .before .before .before .before .before .before .before .before .before .before .before .before .before .before .before .before .before .before .before .before .count-list .ensures) (c .before .before .before .before .before .before .before .before .before .before .before .before .before .before .before .before .before .before .distinct-keys .ensures) (c .before .before .before .before .before .before .before .before .before .before .before .before .before .before .before .before .before .least-dup .ensures)
+returns c =
+    let at-put-keys = c .before .before in
+    let at-put3 = at-put-keys .before .before .before .before in
+    let at-put2 = at-put3 .before .before .before .before in
+    let at-put = at-put2 .before .before .before .before .before in
+    let at-least-dup = at-put .before .before in
+    let at-distinct-keys = at-least-dup .before in
+    let at-count-list = at-distinct-keys .before .before in
+    let s = at-count-list .before .before .before .before .before .before in
+    all-prepared _ _ _ _ (s .pre .1) _ _ _ _ _ _ _ _ _ (at-put .put .ensures) (at-put2 .put2 .ensures) (at-put3 .put3 .ensures)
+    (at-put-keys .put-keys .ensures .0) (s .pre .0) (at-put-keys .put-keys .ensures .1) (at-count-list .count-list .ensures)
+    (at-distinct-keys .distinct-keys .ensures) (at-least-dup .least-dup .ensures)
 
 pub prepare-spec : {M : Type 1} → statement M
 prepare-spec =

@@ -23,7 +23,12 @@ same-length : tie.Need-same-length
 same-length c = search needs
 
 returns : tie.Need-returns
-returns c = let e : length (c .before .before .before .before .before .before .before .before .args .distinct .keys) ≡ 21 = search needs in (keys-put _ _ _ _ _ e (c .before .before .before .before .before .at-most-21 .ensures) (c .before .before .put .ensures), omega (arith, c .before .before .before .before .before .at-most-21 .ensures))
+returns c =
+    let at-put = c .before .before in
+    let at-at-most-21 = at-put .before .before .before in
+    let s = at-at-most-21 .before .before .before in
+    let e : length (s .args .distinct .keys) ≡ 21 = search needs in
+    (keys-put _ _ _ _ _ e (at-at-most-21 .at-most-21 .ensures) (at-put .put .ensures), omega (arith, at-at-most-21 .at-most-21 .ensures))
 
 pub put-keys-spec : {M : Type 1} → statement M
 put-keys-spec =

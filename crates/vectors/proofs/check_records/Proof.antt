@@ -54,8 +54,10 @@ noted-requires c κs = search needs
 
 add-at : tie.Need-add-at Inv-loop μ-loop
 add-at c =
-    let read = c .before .before .before .before .before .before .before .before .before .before .before .before .before .before .before .before in
-    omega (arith, read .record-size .ensures, c .before .before .before .before .before .before .before .before .before .before .before .before .before .before .before .before .before .before .before .before .before .before .before .before .before .before)
+    let b16 = c .before .before .before .before .before .before .before .before .before .before .before .before .before .before .before .before in
+    let b26 = b16 .before .before .before .before .before .before .before .before .before .before in
+    let read = b16 in
+    omega (arith, read .record-size .ensures, b26)
 
 loop-less : tie.Need-loop-less Inv-loop μ-loop
 loop-less c = search needs
