@@ -9,7 +9,7 @@ use lib.ListN.{length, take, drop, length-append}
 use lib.Seq.{take-at, length-take-le}
 use Rattle.costs.specs.Choice.{_if_otherwise_}
 use Rattle.replay.specs.Machine.{Rules, room}
-use Rattle.replay.specs.Stack.{keysOf, length-keys}
+use Rattle.window.specs.Keys.{keysOf, keys-length}
 use Rattle.star_swap.specs.Star.{at}
 use Rattle.star_swap.specs.Check.{Window}
 use Rattle.builders.specs.Draft.{Draft, fresh, routed, stepsOf, builtOf}
@@ -20,11 +20,10 @@ use Rattle.builders.specs.Dup.{andThen, trimmed, filled, finished, dupAn
 use Rattle.builders.specs.Tail.{notTail, deleteTail, tailPlan}
 use Rattle.builders.specs.TailLaws.{IsTail}
 use Rattle.builders.specs.TailCode.{tail-fits, tail-own}
-use Rattle.builders.specs.Area.{Work}
-use Rattle.builders.specs.Area.{Tried}
+use Rattle.builders.specs.Area.{Work, lengthOf, Tried}
 use Rattle.builders.specs.declared.Built.{Built}
 use Rattle.builders.specs.declared.Built.the-variants.{Plan, Nothing}
-use Rattle.builders.specs.TrimCode.{Fit, TrimDone, triedOf}
+use Rattle.builders.specs.TrimCode.{Fit, TrimDone, triedOf, held-small}
 use Rattle.builders.specs.FillCode.{FillDone, Room, no-is, ok-is}
 
 -- the steps that a builder's code holds
@@ -36,29 +35,29 @@ pub record Gives (o : Option (List ℕ)) (r : Tried) : Type 0 where
   pub few : r .work .count ≤ 128
   pub full : length (r .work .steps) ≡ 128
 
-module _ (sm : ℕ) (goal : List ℕ) (w : Work) (f : Room w) (g : Window goal) (b : Bool) (e : b ≡ unroutable sm (keysOf (w .stack)) goal) where
+module _ (sm : ℕ) (goal : List ℕ) (w : Work) (f : Room w) (g : Window goal) (b : Bool) (e : b ≡ unroutable sm (keysOf (w .state)) goal) where
   pub finish-can : b ≡ false → CanRoute w goal
   finish-can h =
       let k = small-of goal (g .keys) in
+      let m = held-small (w .state) (f .held) in
       record {
-        pair =
-            routed-pair sm (keysOf (w .stack)) goal (omega (arith, f .short, length-keys (w .stack))) (f .small) k
-            (routable-routed sm (keysOf (w .stack)) goal (f .small) k (sym e ∙ h));
-        room = omega (arith, f .few, f .short);
+        held = f .held;
+        pair = routed-pair sm (keysOf (w .state)) goal (keys-length (w .state)) m k (routable-routed sm (keysOf (w .state)) goal m k (sym e ∙ h));
+        room = omega (arith, f .few, keys-length (w .state));
         full = f .full;
       }
 
   pub finish-yes : (r : Work) → b ≡ false → Wrote r (routed goal (draftOf w) .steps) → Gives (stepsOf (finished sm goal (draftOf w))) (record { ok = true; work = r })
   unfolding finished
   finish-yes r h v =
-      let x : unroutable sm (keysOf (w .stack)) goal ≡ false = sym e ∙ h in
+      let x : unroutable sm (keysOf (w .state)) goal ≡ false = sym e ∙ h in
       record { is = rw x (ap some (v .text)); few = v .room; full = v .full }
 
   pub finish-no : b ≡ true → Gives (stepsOf (finished sm goal (draftOf w))) (record { ok = false; work = w })
   unfolding finished
   finish-no h =
-      let x : unroutable sm (keysOf (w .stack)) goal ≡ true = sym e ∙ h in
-      record { is = rw x; few = omega (arith, f .few, f .short); full = f .full }
+      let x : unroutable sm (keysOf (w .state)) goal ≡ true = sym e ∙ h in
+      record { is = rw x; few = omega (arith, f .few, keys-length (w .state)); full = f .full }
 
 -- the phases behind one another
 abbrev pub completed : Rules → List ℕ → Draft → Option Draft
@@ -71,20 +70,14 @@ module _ (q : Rules) (goal : List ℕ) (w : Work) (a : Tried) (d : FillDone q go
   pub complete-no : a .ok ≡ false → Gives (stepsOf (completed q goal (draftOf w))) (record { ok = false; work = a .work })
   complete-no h =
       subst (λ (o : Option Draft). Gives (stepsOf (andThen o (finished (q .swapMax) goal))) (record { ok = false; work = a .work })) (sym (no-is a h) ∙ d .is)
-      (record { is = refl; few = omega (arith, d .room .few, d .room .short); full = d .room .full })
+      (record { is = refl; few = omega (arith, d .room .few, keys-length (a .work .state)); full = d .room .full })
 
-pub begun-fit : (start : List ℕ) (w : Work) → Window start → Begun start w → Fit w
-begun-fit start w s b =
-    record {
-      short = omega (arith, b .size, s .short);
-      few = omega (arith, b .size, b .count, s .short);
-      full = b .full;
-      small = subst (λ (p : Draft). Small (p .window)) (sym (b .draft)) (small-of start (s .keys));
-    }
+pub begun-fit : (start : List ℕ) (w : Work) → Begun start w → Fit w
+begun-fit start w b = record { held = b .held; few = omega (arith, b .count, keys-length (w .state)); full = b .full }
 
 module _ (q : Rules) (start goal : List ℕ) (w : Work) (b : Begun start w) (a : Tried) (d : TrimDone w goal (q .swapMax) a) where
   trimmed-is : triedOf a ≡ trimmed (length start) (q .swapMax) goal (fresh start)
-  trimmed-is = d .is ∙ ap (λ (p : Draft). trimmed (w .stack .len) (q .swapMax) goal p) (b .draft) ∙ ap (λ (n : ℕ). trimmed n (q .swapMax) goal (fresh start)) (b .size)
+  trimmed-is = d .is ∙ ap (λ (p : Draft). trimmed (lengthOf w) (q .swapMax) goal p) (b .draft) ∙ ap (λ (n : ℕ). trimmed n (q .swapMax) goal (fresh start)) (b .size)
 
   pub build-yes : (r : Tried) → a .ok ≡ true → Gives (stepsOf (completed q goal (draftOf (a .work)))) r → Gives (stepsOf (dupAndStar q start goal)) r
   unfolding dupAndStar

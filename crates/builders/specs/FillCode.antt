@@ -15,40 +15,36 @@ use Rattle.costs.specs.declared.Step.{Step}
 use Rattle.costs.specs.declared.Step.the-variants.{Dup, Swap, PushImm, LoadVal}
 use Rattle.replay.specs.Machine.{Rules, room, immediate}
 use Rattle.replay.specs.Laws.{Ready}
-use Rattle.replay.specs.Stack.{keysOf, length-keys}
+use Rattle.window.specs.Keys.{keysOf, Window as Packed, keys-length}
 use Rattle.builders.specs.Draft.{Draft, does}
 use Rattle.costs.specs.Table.{countOf}
 use Rattle.star_swap.specs.Tests.{by-test}
-use Rattle.star_swap.specs.Routable.{Small}
-use Rattle.builders.specs.Small.{Tame}
 use Rattle.builders.specs.Work.{draftOf, lengthAfter, Acted}
 use Rattle.builders.specs.Dup.{andThen, made, placeOf, copied, added, addedTimes, filled}
-use Rattle.builders.specs.Area.{Work}
-use Rattle.builders.specs.Area.{Tried}
-use Rattle.builders.specs.TrimCode.{Fit, acted-small, firstAt-low, triedOf}
+use Rattle.builders.specs.Area.{Work, lengthOf, Tried}
+use Rattle.builders.specs.TrimCode.{Fit, firstAt-low, triedOf}
 
 -- a work area that is being filled
 pub record Room (w : Work) : Type 0 where
-  pub short : w .stack .len ≤ 21
-  pub few : w .count ≤ 42 + 2 * w .stack .len
+  pub held : Packed (w .state)
+  pub few : w .count ≤ 42 + 2 * lengthOf w
   pub full : length (w .steps) ≡ 128
-  pub small : Small (keysOf (w .stack))
 
 pub fit-room : (w : Work) → Fit w → Room w
-fit-room w f = record { short = f .short; few = omega (arith, f .few); full = f .full; small = f .small }
+fit-room w f = record { held = f .held; few = omega (arith, f .few); full = f .full }
 
 -- a copy of the key at a place
 pub record Copied (dup sm d : ℕ) (w : Work) (r : Tried) : Type 0 where
   pub is : triedOf r ≡ copied dup sm d (draftOf w)
   pub room : Room (r .work)
 
-module _ (dup sm d : ℕ) (w : Work) (f : Room w) (l : d < w .stack .len) (n : w .stack .len < 21) where
+module _ (dup sm d : ℕ) (w : Work) (f : Room w) (l : d < lengthOf w) (n : lengthOf w < 21) where
   pub copy-dup : (r : Work) → d < dup → Acted (Dup d) w r → Copied dup sm d w (record { ok = true; work = r })
   unfolding copied
   copy-dup r h a =
       record {
         is = rw (lt-ltb d dup h) (ap some (a .draft));
-        room = record { short = omega (arith, a .size); few = omega (arith, a .size, a .count, f .few); full = a .full ∙ f .full; small = acted-small (Dup d) w r a (omega (arith, length-keys (w .stack))) (f .small) };
+        room = record { held = a .held; few = omega (arith, a .size, a .count, f .few); full = a .full ∙ f .full };
       }
 
   pub copy-no-dup : dup ≤ d → dup ≡ 0 → Copied dup sm d w (record { ok = false; work = w })
@@ -70,10 +66,9 @@ module _ (dup sm d : ℕ) (w : Work) (f : Room w) (l : d < w .stack .len) (n : w
         is = rw (le-ltb d dup h, ne-eqb dup 0 e, lt-ltb d sm g) (ap some (b .draft ∙ ap (does (Dup 0)) (a .draft)));
         room =
             record {
-              short = omega (arith, a .size, b .size);
+              held = b .held;
               few = omega (arith, a .size, a .count, b .size, b .count, f .few);
               full = b .full ∙ a .full ∙ f .full;
-              small = acted-small (Dup 0) s r b (omega (arith, length-keys (s .stack), a .size)) (acted-small (Swap d) w s a (omega arith, omega (arith, length-keys (w .stack))) (f .small));
             };
       }
 
@@ -81,16 +76,12 @@ pub made-size : (kinds : List ℕ) (k n : ℕ) → lengthAfter (made kinds k) n 
 unfolding made
 made-size kinds k n = by-test (λ (s : Step). lengthAfter s n ≡ n + 1) (immediate kinds k) (PushImm k) (LoadVal k) (λ e. refl) (λ e. refl)
 
-pub made-tame : (kinds : List ℕ) (k : ℕ) (w : List ℕ) → k < 64 → Tame (made kinds k) w
+pub made-ready : (kinds : List ℕ) (k n : ℕ) → k < 64 → n < 21 → Ready (made kinds k) n
 unfolding made
-made-tame kinds k w l = by-test (λ (s : Step). Tame s w) (immediate kinds k) (PushImm k) (LoadVal k) (λ e. l) (λ e. l)
+made-ready kinds k n h l = by-test (λ (s : Step). Ready s n) (immediate kinds k) (PushImm k) (LoadVal k) (λ e. (h, l)) (λ e. (h, l))
 
-pub made-ready : (kinds : List ℕ) (k n : ℕ) → n < 21 → Ready (made kinds k) n
-unfolding made
-made-ready kinds k n l = by-test (λ (s : Step). Ready s n) (immediate kinds k) (PushImm k) (LoadVal k) (λ e. l) (λ e. l)
-
-pub place-low : (w : Work) (k d : ℕ) → d ≡ placeOf k (keysOf (w .stack)) → (d ≡ w .stack .len → ⊥) → d < w .stack .len
-place-low w k d e ne = omega (arith, firstAt-low (eqb k) (keysOf (w .stack)), length-keys (w .stack))
+pub place-low : (w : Work) (k d : ℕ) → d ≡ placeOf k (keysOf (w .state)) → (d ≡ lengthOf w → ⊥) → d < lengthOf w
+place-low w k d e ne = omega (arith, firstAt-low (eqb k) (keysOf (w .state)))
 
 -- one key more
 pub record AddDone (q : Rules) (k : ℕ) (w : Work) (r : Tried) : Type 0 where
@@ -98,25 +89,25 @@ pub record AddDone (q : Rules) (k : ℕ) (w : Work) (r : Tried) : Type 0 where
   pub room : Room (r .work)
 
 module _ (q : Rules) (k : ℕ) (w : Work) (f : Room w) where
-  pub add-full : q .maxLen ≤ w .stack .len → AddDone q k w (record { ok = false; work = w })
+  pub add-full : q .maxLen ≤ lengthOf w → AddDone q k w (record { ok = false; work = w })
   unfolding added room
-  add-full h = record { is = rw (length-keys (w .stack), le-ltb (w .stack .len) (q .maxLen) h); room = f }
+  add-full h = record { is = rw (le-ltb (lengthOf w) (q .maxLen) h); room = f }
 
-  module _ (h : w .stack .len < q .maxLen) (m : q .maxLen ≤ 21) (d : ℕ) (e : d ≡ placeOf k (keysOf (w .stack))) where
-    pub add-made : (r : Work) → k < 64 → d ≡ w .stack .len → Acted (made (q .kinds) k) w r → AddDone q k w (record { ok = true; work = r })
+  module _ (h : lengthOf w < q .maxLen) (m : q .maxLen ≤ 21) (d : ℕ) (e : d ≡ placeOf k (keysOf (w .state))) where
+    pub add-made : (r : Work) → k < 64 → d ≡ lengthOf w → Acted (made (q .kinds) k) w r → AddDone q k w (record { ok = true; work = r })
     unfolding added room
     add-made r l g a =
-        let size : r .stack .len ≡ w .stack .len + 1 = a .size ∙ made-size (q .kinds) k (w .stack .len) in
+        let size : lengthOf r ≡ lengthOf w + 1 = a .size ∙ made-size (q .kinds) k (lengthOf w) in
         record {
-          is = rw (← e, length-keys (w .stack), lt-ltb (w .stack .len) (q .maxLen) h, le-ltb d (w .stack .len) (omega arith)) (ap some (a .draft));
-          room = record { short = omega arith; few = omega (arith, a .count, f .few); full = a .full ∙ f .full; small = acted-small (made (q .kinds) k) w r a (made-tame (q .kinds) k (keysOf (w .stack)) l) (f .small) };
+          is = rw (← e, lt-ltb (lengthOf w) (q .maxLen) h, le-ltb d (lengthOf w) (omega arith)) (ap some (a .draft));
+          room = record { held = a .held; few = omega (arith, a .count, f .few); full = a .full ∙ f .full };
         }
 
-    pub add-copy : (r : Tried) → (d ≡ w .stack .len → ⊥) → Copied (q .dupMax) (q .swapMax) d w r → AddDone q k w r
+    pub add-copy : (r : Tried) → (d ≡ lengthOf w → ⊥) → Copied (q .dupMax) (q .swapMax) d w r → AddDone q k w r
     unfolding added room
     add-copy r ne c =
         record {
-          is = c .is ∙ rw (← e, length-keys (w .stack), lt-ltb (w .stack .len) (q .maxLen) h, lt-ltb d (w .stack .len) (place-low w k d e ne));
+          is = c .is ∙ rw (← e, lt-ltb (lengthOf w) (q .maxLen) h, lt-ltb d (lengthOf w) (place-low w k d e ne));
           room = c .room;
         }
 
@@ -228,7 +219,7 @@ module _ (q : Rules) (goal : List ℕ) (w₀ : Work) where
   pub filling-first : Room w₀ → Filling q goal w₀ w₀ 0
   filling-first f = record { low = omega arith; room = f; left = refl }
 
-  module _ (w : Work) (k : ℕ) (v : Filling q goal w₀ w k) (l : k < 64) (n : ℕ) (e : n ≡ countOf k goal - countOf k (keysOf (w .stack))) (r : Tried) (t : TimesDone n q k w r) where
+  module _ (w : Work) (k : ℕ) (v : Filling q goal w₀ w k) (l : k < 64) (n : ℕ) (e : n ≡ countOf k goal - countOf k (keysOf (w .state))) (r : Tried) (t : TimesDone n q k w r) where
     fill-one : filled (64 - k) k q goal (draftOf w) ≡ andThen (triedOf r) (filled (64 - (k + 1)) (k + 1) q goal)
     fill-one =
         fill-turn k (draftOf w) l ∙ ap (λ (x : ℕ). andThen (addedTimes x q k (draftOf w)) (filled (64 - (k + 1)) (k + 1) q goal)) (sym e)

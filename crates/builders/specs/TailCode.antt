@@ -11,10 +11,9 @@ use lib.Seq.{paste, paste-zero, take-at, length-take-le}
 use lib.Dec.{ltb}
 use Rattle.costs.specs.Laws.{drop-turn, passed, or-left}
 use Rattle.costs.specs.Choice.{_if_otherwise_}
-use Rattle.replay.specs.Laws.{over-turn}
+use Rattle.window.specs.Written.{over-turn}
 use Rattle.replay.specs.Machine.{rules}
-use Rattle.replay.specs.Stack.{keysOf, length-keys}
-use Rattle.replay.specs.declared.stack.Stack.{Stack}
+use Rattle.window.specs.Keys.{keysOf, keys-length}
 use Rattle.star_swap.specs.Star.{starSwaps, codes, code}
 use Rattle.star_swap.specs.StarCode.{Pair}
 use Rattle.star_swap.specs.StarLoop.{Appended}
@@ -27,7 +26,7 @@ use Rattle.star_swap.specs.Check.{Taken, taken, goal-window}
 use Rattle.star_swap.specs.Call.{written-refused, written-given}
 use Rattle.star_swap.specs.declared.Written.{Written}
 use Rattle.builders.specs.Work.{draftOf, Begun, CanBury, Buried, CanPop, Popped, CanRoute, Wrote}
-use Rattle.builders.specs.Area.{Work}
+use Rattle.builders.specs.Area.{Work, lengthOf}
 
 -- what is left of both decides
 pub record Beginning (goal start : List ℕ) (i : ℕ) : Type 0 where
@@ -72,30 +71,20 @@ module _ (plan old : List ℕ) (n : ℕ) where
       let e : i ≡ n = omega (arith, v .low) in
       v .text ∙ rw (e, zero-add n)
 
--- a window written over the first places of an array
-pub written-length : (s : Stack) (old new : List ℕ) → new ≡ keysOf s ++ drop (length (keysOf s)) old → s .len ≤ length new
-written-length s old new e = omega (arith, ap length e, length-append (keysOf s) (drop (length (keysOf s)) old), length-keys s)
-
-pub written-take : (s : Stack) (old new : List ℕ) → new ≡ keysOf s ++ drop (length (keysOf s)) old → take (s .len - 0) new ≡ keysOf s
-written-take s old new e = ap (take (s .len - 0)) e ∙ take-at (keysOf s) (drop (length (keysOf s)) old) (s .len - 0) (omega (arith, length-keys s))
-
-pub route-short : (w : Work) (goal : List ℕ) → CanRoute w goal → w .stack .len ≤ 21
-route-short w goal h = omega (arith, h .pair .short, length-keys (w .stack))
-
-pub route-wrote : (w : Work) (goal cur new : List ℕ) (r : ℕ) → CanRoute w goal → length new ≡ length (w .steps) → cur ≡ keysOf (w .stack) → Appended cur goal (w .steps) (w .count) new r →
-    Wrote (record { stack = w .stack; steps = new; count = r }) (routed goal (draftOf w) .steps)
+pub route-wrote : (w : Work) (goal cur new : List ℕ) (r : ℕ) → CanRoute w goal → length new ≡ length (w .steps) → cur ≡ keysOf (w .state) → Appended cur goal (w .steps) (w .count) new r →
+    Wrote (record { state = w .state; steps = new; count = r }) (routed goal (draftOf w) .steps)
 unfolding routed
 route-wrote w goal cur new r h f e s =
-    let t : take r new ≡ take (w .count) (w .steps) ++ codes (starSwaps (keysOf (w .stack)) goal) = s .text ∙ ap (λ (u : List ℕ). take (w .count) (w .steps) ++ codes (starSwaps u goal)) e in
-    let n : r ≡ w .count + length (starSwaps (keysOf (w .stack)) goal) = s .number ∙ ap (λ (u : List ℕ). w .count + length (starSwaps u goal)) e in
+    let t : take r new ≡ take (w .count) (w .steps) ++ codes (starSwaps (keysOf (w .state)) goal) = s .text ∙ ap (λ (u : List ℕ). take (w .count) (w .steps) ++ codes (starSwaps u goal)) e in
+    let n : r ≡ w .count + length (starSwaps (keysOf (w .state)) goal) = s .number ∙ ap (λ (u : List ℕ). w .count + length (starSwaps u goal)) e in
     record {
       text = t;
       count =
           omega (
             arith,
             n,
-            length-append (take (w .count) (w .steps)) (codes (starSwaps (keysOf (w .stack)) goal)),
-            length-map (starSwaps (keysOf (w .stack)) goal) code,
+            length-append (take (w .count) (w .steps)) (codes (starSwaps (keysOf (w .state)) goal)),
+            length-map (starSwaps (keysOf (w .state)) goal) code,
             length-take-le (w .count) (w .steps) (omega (arith, h .room, h .full)),
           );
       room = omega (arith, s .few, h .room);
@@ -105,13 +94,13 @@ route-wrote w goal cur new r h f e s =
 -- the parts of delete-tail
 module _ (start goal : List ℕ) (t : IsTail (length start) start goal) (w : Work) (b : Begun start w) where
   pub can-bury : (n : ℕ) → n ≡ buried start goal → CanBury w n
-  can-bury n e = record { keys = omega (arith, b .size, t .shorter); short = omega (arith, b .size, t .short); room = omega (arith, b .count, t .shorter, t .short) }
+  can-bury n e = record { held = b .held; keys = omega (arith, b .size, t .shorter); room = omega (arith, b .count, t .shorter, t .short) }
 
   pub can-pop : (w₁ : Work) (n m : ℕ) → n ≡ buried start goal → m ≡ dead start goal - n → Buried w n w₁ → CanPop w₁ m
   can-pop w₁ n m e f g =
       record {
+        held = g .held;
         keys = omega (arith, b .size, g .size, t .shorter);
-        short = omega (arith, b .size, g .size, t .short);
         room = omega (arith, b .count, g .count, t .shorter, t .short);
       }
 
@@ -124,6 +113,7 @@ module _ (start goal : List ℕ) (t : IsTail (length start) start goal) (w : Wor
     pub tail-route : CanRoute w₂ goal
     tail-route =
         record {
+          held = h .held;
           pair = subst (λ (p : Draft). Pair (p .window) goal) (sym tail-draft) (uncovered-pair (rules 0 (length start) 0 []) start goal t);
           room = omega (arith, h .count, g .count, b .count, t .shorter, t .short);
           full = h .full ∙ g .full ∙ b .full;

@@ -13,18 +13,17 @@ use Rattle.costs.specs.Choice.{_if_otherwise_}
 use Rattle.costs.specs.Laws.{drop-turn}
 use Rattle.costs.specs.declared.Step.{Step}
 use Rattle.costs.specs.declared.Step.the-variants.{Pop, Swap}
-use Rattle.replay.specs.Stack.{keysOf, length-keys}
+use Rattle.window.specs.Keys.{keysOf, Window as Packed}
+use Rattle.window.specs.Laws.{key-lt}
+use Rattle.window.specs.declared.PackedState.{PackedState}
 use Rattle.star_swap.specs.Star.{at}
 use Rattle.star_swap.specs.Check.{Counts}
 use Rattle.builders.specs.Draft.{Draft, does}
-use Rattle.builders.specs.DupLaws.{does-small}
 use Rattle.costs.specs.Table.{countOf}
-use Rattle.star_swap.specs.Routable.{Small, small-at}
-use Rattle.builders.specs.Small.{Tame}
+use Rattle.star_swap.specs.Routable.{Small, small-of, small-at}
 use Rattle.builders.specs.Work.{draftOf, Acted}
 use Rattle.builders.specs.Dup.{firstAt, surplus, surplusAt, dropAt, within, trimmed}
-use Rattle.builders.specs.Area.{Work}
-use Rattle.builders.specs.Area.{Tried}
+use Rattle.builders.specs.Area.{Work, lengthOf, Tried}
 
 -- a work area, if the builder has come so far
 abbrev pub triedOf : Tried → Option Draft
@@ -103,26 +102,26 @@ surplus-by goal a w s c = firstAt-same (moreThan a w) (surplus goal w) w (λ i l
 
 -- a work area that is being trimmed
 pub record Fit (w : Work) : Type 0 where
-  pub short : w .stack .len ≤ 21
-  pub few : w .count + 2 * w .stack .len ≤ 42
+  pub held : Packed (w .state)
+  pub few : w .count + 2 * lengthOf w ≤ 42
   pub full : length (w .steps) ≡ 128
-  pub small : Small (keysOf (w .stack))
 
-pub acted-small : (s : Step) (w r : Work) → Acted s w r → Tame s (keysOf (w .stack)) → Small (keysOf (w .stack)) → Small (keysOf (r .stack))
-acted-small s w r a t h = subst (λ (p : Draft). Small (p .window)) (sym (a .draft)) (does-small s (draftOf w) t h)
+-- the keys of a packed window are below 64
+pub held-small : (s : PackedState) → Packed s → Small (keysOf s)
+held-small s h = small-of (keysOf s) (λ i l. key-lt 6 (keysOf s) i (h .keys))
 
 pub record Dropped (w : Work) (d : ℕ) (r : Work) : Type 0 where
   pub draft : draftOf r ≡ dropAt d (draftOf w)
   pub fit : Fit r
-  pub size : r .stack .len + 1 ≡ w .stack .len
+  pub size : lengthOf r + 1 ≡ lengthOf w
 
-module _ (w : Work) (d : ℕ) (f : Fit w) (l : d < w .stack .len) where
+module _ (w : Work) (d : ℕ) (f : Fit w) (l : d < lengthOf w) where
   pub drop-top : (r : Work) → d ≡ 0 → Acted Pop w r → Dropped w d r
   unfolding dropAt
   drop-top r e a =
       record {
         draft = rw e (a .draft);
-        fit = record { short = omega (arith, a .size, f .short); few = omega (arith, a .size, a .count, f .few); full = a .full ∙ f .full; small = acted-small Pop w r a tt (f .small) };
+        fit = record { held = a .held; few = omega (arith, a .size, a .count, f .few); full = a .full ∙ f .full };
         size = omega (arith, a .size);
       }
 
@@ -133,62 +132,61 @@ module _ (w : Work) (d : ℕ) (f : Fit w) (l : d < w .stack .len) where
         draft = rw (ne-eqb d 0 e) (b .draft ∙ ap (does Pop) (a .draft));
         fit =
             record {
-              short = omega (arith, a .size, b .size, f .short);
+              held = b .held;
               few = omega (arith, a .size, a .count, b .size, b .count, f .few);
               full = b .full ∙ a .full ∙ f .full;
-              small = acted-small Pop s r b tt (acted-small (Swap d) w s a (omega arith, omega (arith, length-keys (w .stack))) (f .small));
             };
         size = omega (arith, a .size, b .size);
       }
 
 -- trimming
 pub record TrimDone (w : Work) (goal : List ℕ) (sm : ℕ) (r : Tried) : Type 0 where
-  pub is : triedOf r ≡ trimmed (w .stack .len) sm goal (draftOf w)
+  pub is : triedOf r ≡ trimmed (lengthOf w) sm goal (draftOf w)
   pub fit : Fit (r .work)
 
 pub record Trimming (w₀ : Work) (goal : List ℕ) (sm : ℕ) (w : Work) (d : ℕ) : Type 0 where
   pub fit : Fit w
-  pub place : d ≡ surplusAt goal (keysOf (w .stack))
-  pub left : trimmed (w .stack .len) sm goal (draftOf w) ≡ trimmed (w₀ .stack .len) sm goal (draftOf w₀)
+  pub place : d ≡ surplusAt goal (keysOf (w .state))
+  pub left : trimmed (lengthOf w) sm goal (draftOf w) ≡ trimmed (lengthOf w₀) sm goal (draftOf w₀)
 
 module _ (w₀ : Work) (goal : List ℕ) (sm : ℕ) where
-  pub trim-first : (d : ℕ) (a : List ℕ) → Fit w₀ → Counts goal a → d ≡ firstAt (moreThan a (keysOf (w₀ .stack))) (keysOf (w₀ .stack)) → Trimming w₀ goal sm w₀ d
-  trim-first d a f c e = record { fit = f; place = e ∙ surplus-by goal a (keysOf (w₀ .stack)) (f .small) c; left = refl }
+  pub trim-first : (d : ℕ) (a : List ℕ) → Fit w₀ → Counts goal a → d ≡ firstAt (moreThan a (keysOf (w₀ .state))) (keysOf (w₀ .state)) → Trimming w₀ goal sm w₀ d
+  trim-first d a f c e = record { fit = f; place = e ∙ surplus-by goal a (keysOf (w₀ .state)) (held-small (w₀ .state) (f .held)) c; left = refl }
 
   module _ (w : Work) (d : ℕ) (t : Trimming w₀ goal sm w d) where
-    turn : (n : ℕ) → n ≡ w .stack .len → d < n → trimmed n sm goal (draftOf w) ≡ (trimmed (n - 1) sm goal (dropAt d (draftOf w)) if within sm d otherwise none)
+    turn : (n : ℕ) → n ≡ lengthOf w → d < n → trimmed n sm goal (draftOf w) ≡ (trimmed (n - 1) sm goal (dropAt d (draftOf w)) if within sm d otherwise none)
     unfolding trimmed
     turn zero e l = absurd (omega arith)
     turn (suc n) e l =
-        let k : length (keysOf (w .stack)) ≡ suc n = length-keys (w .stack) ∙ sym e in
+        let k : lengthOf w ≡ suc n = sym e in
         let z : suc n - 1 ≡ n = omega arith in
         rw (← t .place, k, lt-ltb d (suc n) l, z)
 
-    pub trim-far : (far : Bool) → d < w .stack .len → far ≡ not (within sm d) → far ≡ true → TrimDone w₀ goal sm (record { ok = false; work = w })
+    pub trim-far : (far : Bool) → d < lengthOf w → far ≡ not (within sm d) → far ≡ true → TrimDone w₀ goal sm (record { ok = false; work = w })
     trim-far far l e f =
         let g : within sm d ≡ false = not-true (within sm d) (sym e ∙ f) in
-        record { is = sym (sym (t .left) ∙ turn (w .stack .len) refl l ∙ rw g); fit = t .fit }
+        record { is = sym (sym (t .left) ∙ turn (lengthOf w) refl l ∙ rw g); fit = t .fit }
 
-    pub trim-next : (far : Bool) (r : Work) (d′ : ℕ) (a : List ℕ) → d < w .stack .len → far ≡ not (within sm d) → far ≡ false → Dropped w d r → Counts goal a →
-        d′ ≡ firstAt (moreThan a (keysOf (r .stack))) (keysOf (r .stack)) → Trimming w₀ goal sm r d′
+    pub trim-next : (far : Bool) (r : Work) (d′ : ℕ) (a : List ℕ) → d < lengthOf w → far ≡ not (within sm d) → far ≡ false → Dropped w d r → Counts goal a →
+        d′ ≡ firstAt (moreThan a (keysOf (r .state))) (keysOf (r .state)) → Trimming w₀ goal sm r d′
     trim-next far r d′ a l e f b c h =
         let g : within sm d ≡ true = not-false (within sm d) (sym e ∙ f) in
-        let n : r .stack .len ≡ w .stack .len - 1 = omega (arith, b .size) in
+        let n : lengthOf r ≡ lengthOf w - 1 = omega (arith, b .size) in
         record {
           fit = b .fit;
-          place = h ∙ surplus-by goal a (keysOf (r .stack)) (b .fit .small) c;
-          left = rw (b .draft, n) (sym (turn (w .stack .len) refl l ∙ rw g) ∙ t .left);
+          place = h ∙ surplus-by goal a (keysOf (r .state)) (held-small (r .state) (b .fit .held)) c;
+          left = rw (b .draft, n) (sym (turn (lengthOf w) refl l ∙ rw g) ∙ t .left);
         }
 
-    stop : (n : ℕ) → n ≡ w .stack .len → n ≤ d → trimmed n sm goal (draftOf w) ≡ some (draftOf w)
+    stop : (n : ℕ) → n ≡ lengthOf w → n ≤ d → trimmed n sm goal (draftOf w) ≡ some (draftOf w)
     unfolding trimmed
     stop zero e l = refl
     stop (suc n) e l =
-        let k : length (keysOf (w .stack)) ≡ suc n = length-keys (w .stack) ∙ sym e in
+        let k : lengthOf w ≡ suc n = sym e in
         rw (← t .place, k, le-ltb d (suc n) l)
 
-    pub trim-last : w .stack .len ≤ d → TrimDone w₀ goal sm (record { ok = true; work = w })
-    trim-last l = record { is = sym (sym (t .left) ∙ stop (w .stack .len) refl l); fit = t .fit }
+    pub trim-last : lengthOf w ≤ d → TrimDone w₀ goal sm (record { ok = true; work = w })
+    trim-last l = record { is = sym (sym (t .left) ∙ stop (lengthOf w) refl l); fit = t .fit }
 
 pub beyond-top : (sm d : ℕ) → d ≡ 0 → false ≡ not (within sm d)
 unfolding within

@@ -1,14 +1,14 @@
 // The builders: plans made without a search.
 use costs::Step;
 use replay::SearchCfg;
-use replay::stack::Stack;
 use star_swap::Written;
+use window::PackedState;
 ghost use mathlib.Core.Path.{_≡_};
 ghost use mathlib.Core.Bool.{_||_, not};
 ghost use mathlib.Core.List.{_++_};
 ghost use Prim.Native.Nat.{_+_, _-_, _<_, _≤_, min};
 ghost use lib.ListN.{length, take, drop};
-ghost use Rattle.replay.specs.Stack.{keysOf};
+ghost use Rattle.window.specs.Keys.{keysOf, Window as Packed};
 ghost use Rattle.replay.specs.Laws.{Ready};
 ghost use Rattle.replay.specs.Machine.{ruled};
 ghost use Rattle.star_swap.specs.StarCode.{Pair};
@@ -18,7 +18,6 @@ ghost use Rattle.builders.specs.TailLaws.{IsTail};
 ghost use Rattle.costs.specs.Table.{countOf};
 ghost use Rattle.star_swap.specs.Refusal.{unroutable};
 ghost use Rattle.star_swap.specs.Check.{Window, Counts};
-ghost use Rattle.star_swap.specs.Routable.{Small};
 ghost use Rattle.builders.specs.Dup.{firstAt, placeOf, surplusAt, dropAt, within, trimmed, made, added, addedTimes, filled, finished, dupAndStar};
 ghost use Rattle.builders.specs.TrimCode.{triedOf, moreThan, Fit, Dropped, TrimDone};
 ghost use Rattle.builders.specs.FillCode.{Room, Copied, AddDone, TimesDone, Unwanted, FillDone};
@@ -28,7 +27,7 @@ ghost use Rattle.builders.specs.Work.{draftOf, Acted, CanBury, Buried, C
 
 // Where the steps so far lead to: the window and the number of the steps. The steps stand in a list of 128 places.
 pub struct Place {
-    pub stack: Stack,
+    pub state: PackedState,
     pub count: usize,
 }
 
@@ -36,6 +35,12 @@ pub struct Place {
 pub struct Reach {
     pub ok: bool,
     pub at: Place,
+}
+
+// Where a key stands that is to go, and how many keys there are; the two are the same if there is none.
+struct Surplus {
+    at: usize,
+    of: usize,
 }
 
 // What a builder answers: the number of its steps, or that it has none.
@@ -46,24 +51,24 @@ pub enum Built {
 
 // No step yet.
 fn begin(start: &[u8]) -> Place
-    requires { ⌜ length (now start) ≤ 21 ⌝ }
+    requires { ⌜ Window (now start) ⌝ }
     ensures { λ r. ⌜ Fresh (now (start .entry)) r ⌝ }
 {
     Place {
-        stack: replay::load(start),
+        state: PackedState::from_ids(start),
         count: 0,
     }
 }
 
 // One step more.
 fn act(work: Place, step: Step, steps: &mut [u16]) -> Place
-    requires { ⌜ Ready step (work .stack .len) × (work .count < 128) × (length (now steps) ≡ 128) ⌝ }
+    requires { ⌜ Packed (work .state) × Ready step (length (keysOf (work .state))) × (work .count < 128) × (length (now steps) ≡ 128) ⌝ }
     ensures { λ r. ⌜ Acted step (workOf work (now (steps .entry))) (workOf r (now (steps .exit))) ⌝ }
 {
     let n = work.count;
     steps[n] = costs::code(step);
     Place {
-        stack: replay::moved(work.stack, step),
+        state: replay::moved(work.state, step),
         count: n + 1,
     }
 }
@@ -76,8 +81,7 @@ fn bury_keys(work: Place, n: usize, steps: &mut [u16]) -> Place
     let mut w = work;
     let mut i: usize = 0;
     while i < n {
-        let stack = w.stack;
-        let d = (stack.len - 1 - i) as u8;
+        let d = (w.state.len() - 1 - i) as u8;
         w = act(w, Step::Swap(d), steps);
         w = act(w, Step::Pop, steps);
         i += 1;
@@ -103,12 +107,11 @@ fn route(work: Place, goal: &[u8], steps: &mut [u16]) -> Place
     requires { ⌜ CanRoute (workOf work (now steps)) (now goal) ⌝ }
     ensures { λ r. ⌜ Wrote (workOf r (now (steps .exit))) (routed (now (goal .entry)) (draftOf (workOf work (now (steps .entry)))) .steps) ⌝ }
 {
-    let stack = work.stack;
-    let n = stack.len;
+    let state = work.state;
     let mut cur: [u8; 21] = [0; 21];
-    replay::write(stack, &mut cur);
+    let n = state.write(&mut cur);
     let count = star_swap::star(&cur[0..n], goal, work.count, steps);
-    Place { stack, count }
+    Place { state, count }
 }
 
 fn lesser(a: usize, b: usize) -> usize
@@ -119,7 +122,7 @@ fn lesser(a: usize, b: usize) -> usize
 
 // Delete-tail's plan.
 fn tail(start: &[u8], goal: &[u8], steps: &mut [u16]) -> Place
-    requires { ⌜ IsTail (length (now start)) (now start) (now goal) × (length (now steps) ≡ 128) ⌝ }
+    requires { ⌜ Window (now start) × IsTail (length (now start)) (now start) (now goal) × (length (now steps) ≡ 128) ⌝ }
     ensures { λ r. ⌜ Wrote (workOf r (now (steps .exit))) (deleteTail (now (start .entry)) (now (goal .entry))) ⌝ }
 {
     let keep = goal.len();
@@ -196,15 +199,15 @@ pub fn delete_tail(start: &[u8], goal: &[u8], swap_max: usize, steps: &mut [u16]
 }
 
 // The highest place of the key in the window, or the window's length.
-fn first_of(stack: Stack, key: u8) -> usize
-    requires { ⌜ stack .len ≤ 21 ⌝ }
-    ensures { λ r. ⌜ r ≡ placeOf key (keysOf stack) ⌝ }
+fn first_of(state: PackedState, key: u8) -> usize
+    requires { ⌜ Packed state ⌝ }
+    ensures { λ r. ⌜ r ≡ placeOf key (keysOf state) ⌝ }
 {
-    let n = stack.len;
+    let n = state.len();
     let mut left = n;
     while left > 0 {
         let i = n - left;
-        if key == stack.get(i) {
+        if key == state.get(i) {
             return i;
         }
         left -= 1;
@@ -212,38 +215,28 @@ fn first_of(stack: Stack, key: u8) -> usize
     n
 }
 
-// How often each key stands in the window.
-fn counts_of(stack: Stack) -> [u8; 64]
-    requires { ⌜ stack .len ≤ 21 ⌝ }
-    ensures { λ r. ⌜ Counts (keysOf stack) r ⌝ }
+// The place of the first key of which there are more than `wanted` says, or the window's length; and that length.
+fn surplus_at(state: PackedState, wanted: &[u8; 64]) -> Surplus
+    requires { ⌜ Packed state ⌝ }
+    ensures { λ r. ⌜ (r .at ≡ firstAt (moreThan (now (wanted .entry)) (keysOf state)) (keysOf state)) × (r .of ≡ length (keysOf state)) ⌝ }
 {
-    let n = stack.len;
     let mut cur: [u8; 21] = [0; 21];
-    replay::write(stack, &mut cur);
-    star_swap::counts(&cur[0..n])
-}
-
-// The place of the first key of which there are more than `wanted` says, or the window's length.
-fn surplus_at(stack: Stack, wanted: &[u8; 64]) -> usize
-    requires { ⌜ (stack .len ≤ 21) × Small (keysOf stack) ⌝ }
-    ensures { λ r. ⌜ r ≡ firstAt (moreThan (now (wanted .entry)) (keysOf stack)) (keysOf stack) ⌝ }
-{
-    let have = counts_of(stack);
-    let n = stack.len;
+    let n = state.write(&mut cur);
+    let have = star_swap::counts(&cur[0..n]);
     let mut i: usize = 0;
     while i < n {
-        let k = stack.get(i) as usize;
+        let k = cur[i] as usize;
         if wanted[k] < have[k] {
-            return i;
+            return Surplus { at: i, of: n };
         }
         i += 1;
     }
-    n
+    Surplus { at: n, of: n }
 }
 
 // The key at a place swapped up and popped.
 fn drop_at(work: Place, d: usize, steps: &mut [u16]) -> Place
-    requires { ⌜ Fit (workOf work (now steps)) × (d < work .stack .len) ⌝ }
+    requires { ⌜ Fit (workOf work (now steps)) × (d < length (keysOf (work .state))) ⌝ }
     ensures { λ r. ⌜ Dropped (workOf work (now (steps .entry))) d (workOf r (now (steps .exit))) ⌝ }
 {
     if d == 0 {
@@ -270,14 +263,15 @@ fn trim(work: Place, goal: &[u8], swap_max: usize, steps: &mut [u16]) -> Reach
 {
     let wanted = star_swap::counts(goal);
     let mut w = work;
-    let mut d = surplus_at(w.stack, &wanted);
-    while d < w.stack.len {
+    let mut next = surplus_at(w.state, &wanted);
+    while next.at < next.of {
+        let d = next.at;
         let far = beyond(d, swap_max);
         if far {
             return Reach { ok: false, at: w };
         }
         w = drop_at(w, d, steps);
-        d = surplus_at(w.stack, &wanted);
+        next = surplus_at(w.state, &wanted);
     }
     Reach { ok: true, at: w }
 }
@@ -296,7 +290,7 @@ fn made_step(kinds: &[u8], key: u8) -> Step
 
 // A copy of the key at a place.
 fn copy_at(work: Place, d: usize, dup_max: usize, swap_max: usize, steps: &mut [u16]) -> Reach
-    requires { ⌜ Room (workOf work (now steps)) × (d < work .stack .len) × (work .stack .len < 21) ⌝ }
+    requires { ⌜ Room (workOf work (now steps)) × (d < length (keysOf (work .state))) × (length (keysOf (work .state)) < 21) ⌝ }
     ensures { λ r. ⌜ Copied «dup_max» «swap_max» d (workOf work (now (steps .entry))) (reachOf r (now (steps .exit))) ⌝ }
 {
     if d < dup_max {
@@ -329,15 +323,15 @@ fn add_key(work: Place, key: u8, cfg: SearchCfg, kinds: &[u8], steps: &mut [u16]
     requires { ⌜ Room (workOf work (now steps)) × (key < 64) × (cfg .«max_len» ≤ 21) × (length (now kinds) ≡ 64) ⌝ }
     ensures { λ r. ⌜ AddDone (ruled cfg (now (kinds .entry))) key (workOf work (now (steps .entry))) (reachOf r (now (steps .exit))) ⌝ }
 {
-    let stack = work.stack;
-    let n = stack.len;
+    let state = work.state;
+    let n = state.len();
     if n >= cfg.max_len {
         return Reach {
             ok: false,
             at: work,
         };
     }
-    let d = first_of(stack, key);
+    let d = first_of(state, key);
     if d == n {
         let step = made_step(kinds, key);
         return Reach {
@@ -375,25 +369,24 @@ fn add_times(
 }
 
 // How often the key stands in the window.
-fn count_key(stack: Stack, key: u8) -> usize
-    requires { ⌜ stack .len ≤ 21 ⌝ }
-    ensures { λ r. ⌜ r ≡ countOf key (keysOf stack) ⌝ }
+fn count_key(state: PackedState, key: u8) -> usize
+    requires { ⌜ Packed state ⌝ }
+    ensures { λ r. ⌜ r ≡ countOf key (keysOf state) ⌝ }
 {
-    let n = stack.len;
     let mut cur: [u8; 21] = [0; 21];
-    replay::write(stack, &mut cur);
+    let n = state.write(&mut cur);
     costs::count_of(&cur[0..n], key) as usize
 }
 
 // How many of a key are missing.
-fn missing(stack: Stack, key: u8, want: usize) -> usize
-    requires { ⌜ stack .len ≤ 21 ⌝ }
-    ensures { λ r. ⌜ r ≡ want - countOf key (keysOf stack) ⌝ }
+fn missing(state: PackedState, key: u8, want: usize) -> usize
+    requires { ⌜ Packed state ⌝ }
+    ensures { λ r. ⌜ r ≡ want - countOf key (keysOf state) ⌝ }
 {
     if want == 0 {
         return 0;
     }
-    let have = count_key(stack, key);
+    let have = count_key(state, key);
     if have < want { want - have } else { 0 }
 }
 
@@ -426,7 +419,7 @@ fn fill(work: Place, goal: &[u8], cfg: SearchCfg, kinds: &[u8], steps: &mut [u16
     let mut key = next_wanted(goal, 0);
     while key < 64 {
         let want = wanted[key as usize] as usize;
-        let n = missing(w.stack, key, want);
+        let n = missing(w.state, key, want);
         let a = add_times(w, n, key, cfg, kinds, steps);
         w = a.at;
         if a.ok {
@@ -439,13 +432,12 @@ fn fill(work: Place, goal: &[u8], cfg: SearchCfg, kinds: &[u8], steps: &mut [u16
 }
 
 // Whether star-swap refuses the window.
-fn cannot_route(stack: Stack, goal: &[u8], swap_max: usize) -> bool
-    requires { ⌜ (stack .len ≤ 21) × Window (now goal) ⌝ }
-    ensures { λ r. ⌜ r ≡ unroutable «swap_max» (keysOf stack) (now (goal .entry)) ⌝ }
+fn cannot_route(state: PackedState, goal: &[u8], swap_max: usize) -> bool
+    requires { ⌜ Packed state × Window (now goal) ⌝ }
+    ensures { λ r. ⌜ r ≡ unroutable «swap_max» (keysOf state) (now (goal .entry)) ⌝ }
 {
-    let n = stack.len;
     let mut cur: [u8; 21] = [0; 21];
-    replay::write(stack, &mut cur);
+    let n = state.write(&mut cur);
     star_swap::not_routable(&cur[0..n], goal, swap_max)
 }
 
@@ -454,7 +446,7 @@ fn finish(work: Place, goal: &[u8], swap_max: usize, steps: &mut [u16]) -> Reach
     requires { ⌜ Room (workOf work (now steps)) × Window (now goal) ⌝ }
     ensures { λ r. ⌜ Gives (stepsOf (finished «swap_max» (now (goal .entry)) (draftOf (workOf work (now (steps .entry)))))) (reachOf r (now (steps .exit))) ⌝ }
 {
-    let none = cannot_route(work.stack, goal, swap_max);
+    let none = cannot_route(work.state, goal, swap_max);
     if none {
         return Reach {
             ok: false,

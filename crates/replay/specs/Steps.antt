@@ -13,7 +13,7 @@ use Rattle.costs.specs.Step.{decoded}
 use Rattle.costs.specs.Table.{anyOver}
 use Rattle.costs.specs.declared.Step.{Step}
 use Rattle.costs.specs.declared.Step.the-variants.{Pop, Dup, Swap, PushImm, LoadVal}
-use Rattle.replay.specs.Laws.{and-left}
+use Rattle.replay.specs.Laws.{and-left, immediate-key, value-key}
 use Rattle.replay.specs.Machine.{Rules, room, immediate, value, allows, after, stepOn, onward, Outcome, refuses, stops, ends, ranOn}
 
 -- ---- a step's effect by cases
@@ -77,15 +77,6 @@ over-set m (x ∷ w) (suc i) k l h =
 over-drop : (m : ℕ) (w : List ℕ) → anyOver m w ≡ false → anyOver m (drop 1 w) ≡ false
 over-drop m [] h = h
 over-drop m (x ∷ w) h = or-rest (ltb m x) (anyOver m w) h
-
--- a key that may be pushed or loaded is below 64
-pub immediate-key : (ks : List ℕ) (k : ℕ) → immediate ks k ≡ true → k < 64
-unfolding immediate
-immediate-key ks k h = ltb-true k 64 (and-left (ltb k 64) (eqb (getD ks k 0) 1 || eqb (getD ks k 0) 2) h)
-
-pub value-key : (ks : List ℕ) (k : ℕ) → value ks k ≡ true → k < 64
-unfolding value
-value-key ks k h = ltb-true k 64 (and-left (ltb k 64) (eqb (getD ks k 0) 0) h)
 
 pub keys-after : (q : Rules) (s : Step) (w : List ℕ) → allows q s (length w) ≡ true → anyOver 63 w ≡ false → anyOver 63 (after s w) ≡ false
 unfolding after allows

@@ -6,7 +6,7 @@ use mathlib.Core.List.{List, [], _∷_, _++_, append-nil}
 use native.Mathlib.Omega.{arith}
 use native.Mathlib.Numerals.{add-one}
 use lib.ListN.{length, getD, set, take, length-append}
-use lib.Seq.{take-suc-set, take-suc, take-length}
+use lib.Seq.{take-suc-set}
 use Rattle.successors.specs.Parts.{offer, upTo, upTo-turn, upTo-length, offer-length}
 use Rattle.successors.specs.Successors.{isFirst, firstAt, firsts}
 use Rattle.successors.specs.declared.Distinct.{Distinct}
@@ -40,16 +40,6 @@ keeps-all list i d l m k = let e : length list ≡ i = omega arith in rw e (k .k
 
 pub kept-add : (keys : List ℕ) (n c : ℕ) → n < length keys → take (n + 1) (set keys n c) ≡ take n keys ++ (c ∷ [])
 kept-add keys n c h = rw (add-one n, take-suc-set keys n c h)
-
--- the keys of a list ks written over out in order: the next key, and all of them
-pub written-on : (out ks : List ℕ) (i c : ℕ) → i < length out → i < length ks → c ≡ getD ks i 0 → take i out ≡ take i ks → take (i + 1) (set out i c) ≡ take (i + 1) ks
-written-on out ks i c l m e h = kept-add out i c l ∙ (rw (h, e, add-one i) (sym (take-suc ks i 0 m)))
-
-pub written-all : (out ks : List ℕ) (i n : ℕ) → i ≤ n → n ≤ i → n ≡ length ks → take i out ≡ take i ks → take n out ≡ ks
-written-all out ks i n l m e h =
-    let q : n ≡ i = omega arith in
-    let z : i ≡ length ks = omega arith in
-    rw q (h ∙ ap (λ (k : ℕ). take k ks) z ∙ take-length ks)
 
 pub yes : (t : Bool) (x : ℕ) (a b : List ℕ) → t ≡ true → b ≡ a ++ (x ∷ []) → b ≡ a ++ offer t x
 unfolding offer

@@ -417,18 +417,6 @@ fn grown_rest(
     at
 }
 
-// The keys of a state, in order, into the first places of a list.
-fn write_keys(state: PackedState, n: usize, out: &mut [u8])
-    requires { ⌜ Window state × (n ≡ length (keysOf state)) × (n ≤ length (now out)) ⌝ }
-    ensures { λ _. ⌜ take n (now (out .exit)) ≡ keysOf state ⌝ }
-{
-    let mut i = 0;
-    while i < n {
-        out[i] = state.get(i);
-        i += 1;
-    }
-}
-
 // The steps to the successors of a window, as expand gives them, by the list of its keys.
 fn expand_keys(
     w: &[u8],
@@ -482,8 +470,7 @@ pub fn expand(
     requires { ⌜ Expandable state (asked cfg (now kinds) (now prices) (now goal)) (now keys) × (50 ≤ length (now out)) ⌝ }
     ensures { λ r. ⌜ Expanded (asked cfg (now (kinds .entry)) (now (prices .entry)) (now (goal .entry))) (keysOf state) last (now (out .entry)) (now (out .exit)) r ⌝ }
 {
-    let len = state.len();
     let mut held = [0u8; 21];
-    write_keys(state, len, &mut held);
+    let len = state.write(&mut held);
     expand_keys(&held[..len], goal, keys, last, cfg, kinds, prices, out)
 }

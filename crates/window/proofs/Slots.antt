@@ -1,30 +1,17 @@
 -- The keys of a slice: what packing's table says of them, and one key less.
-use mathlib.Core.Path.{_≡_, refl, sym, ap, _∙_}
-use mathlib.Core.Bool.{Bool, true, false, _||_}
-use mathlib.Core.List.{List, [], _∷_}
-use Prim.Native.Nat.{ℕ, suc, _+_, _-_, _^_, _≤_, _<_}
+use mathlib.Core.Path.{_≡_, ap, _∙_}
+use mathlib.Core.List.{List, _∷_}
+use Prim.Native.Nat.{ℕ, suc, _-_, _^_, _≤_, _<_}
 use native.Mathlib.Omega.{arith}
 use lib.Dec.{ltb}
 use lib.ListN.{length, getD, drop}
 use lib.Seq.{drop-cons}
 use borrow.Author.Tests.{ltb-false}
-use lib.Pow.{pow-pos}
-use Rattle.costs.specs.Laws.{or-left, passed}
+use Rattle.costs.specs.Laws.{passed}
 use Rattle.costs.specs.Table.{anyOver}
 use Rattle.window.specs.Pack.{Keys}
+use Rattle.window.specs.Laws.{keys-of}
 use Rattle.window.specs.Packing.{packRefusal}
-
-or-none : (a b : Bool) → (a || b) ≡ false → b ≡ false
-or-none true b h = let z : _≡_ {A = ℕ} 0 1 = cc in absurd (omega arith)
-or-none false b h = h
-
--- no key over the greatest of the width
-pub keys-of : (w : ℕ) (ids : List ℕ) → anyOver (2 ^ w - 1) ids ≡ false → Keys w ids
-keys-of w [] e = tt
-keys-of w (k ∷ ks) e = (
-  omega (arith, pow-pos w, ltb-false (2 ^ w - 1) k (or-left (ltb (2 ^ w - 1) k) (anyOver (2 ^ w - 1) ks) e)),
-  keys-of w ks (or-none (ltb (2 ^ w - 1) k) (anyOver (2 ^ w - 1) ks) e),
-)
 
 -- what an accepted packing may rest on
 pub accepted : (w limit : ℕ) (ids : List ℕ) → packRefusal w limit ids ≡ 0 → Keys w ids × (length ids ≤ limit)

@@ -1,10 +1,10 @@
 -- The window that a state holds, as a function.
 use Prim.Native.Nat.{ℕ, zero, suc, _/_, _%_, _^_, _≤_, _<_}
-use mathlib.Core.Path.{_≡_}
+use mathlib.Core.Path.{_≡_, refl, sym, subst}
 use mathlib.Core.Bool.{Bool, true, false}
 use mathlib.Core.List.{List, [], _∷_}
 use native.Mathlib.Omega.{arith}
-use lib.ListN.{length}
+use lib.ListN.{length, getD, drop}
 use lib.Dec.{ltb}
 use Rattle.window.specs.declared.PackedState.{PackedState}
 use Rattle.window.specs.State.{Held, whole}
@@ -33,3 +33,16 @@ keys-length s = decode-length 6 21 (whole s)
 pub held-keys : (s : PackedState) (xs : List ℕ) → Held 6 s xs → length xs ≤ 21 → keysOf s ≡ xs
 unfolding keysOf
 held-keys s xs h l = held-decode 6 21 (omega arith) s xs h l
+
+-- a state that holds a window of at most 21 keys is one
+pub held-window : (s : PackedState) (xs : List ℕ) → Held 6 s xs → length xs ≤ 21 → Window s
+held-window s xs h l = subst (Held 6 s) (sym (held-keys s xs h l)) h
+
+-- a list with a key is its first key and the rest
+first-and-rest : (xs : List ℕ) → 0 < length xs → xs ≡ getD xs 0 0 ∷ drop 1 xs
+first-and-rest [] l = absurd (omega arith)
+first-and-rest (k ∷ xs) l = refl
+
+-- a window with a key, as Pop asks for it
+pub held-first : (s : PackedState) (xs : List ℕ) → Held 6 s xs → 0 < length xs → Held 6 s (getD xs 0 0 ∷ drop 1 xs)
+held-first s xs h l = subst (Held 6 s) (first-and-rest xs l) h

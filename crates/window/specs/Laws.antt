@@ -3,9 +3,14 @@ use mathlib.Core.Path.{_≡_, refl, sym, ap, ap₂, _∙_, subst}
 use Prim.Native.Nat.{ℕ, zero, suc, _+_, _-_, _*_, _/_, _%_, _^_, _≤_, _<_}
 use native.Mathlib.Nat.{one-mul, add-mul, mul-right-comm, mul-le-mul, mul-zero, mul-suc, mul-comm, mul-assoc, mul-add, mul-one, div-one, zero-add, add-comm, not-suc-le-zero, le-of-suc-le-suc, mod-eq-of-lt, add-mul-mod-self-left, add-mul-div-left, div-eq-of-lt, mul-le-mul-left, mul-le-mul-right, le-trans, le-of-eq, lt-irrefl}
 use native.Mathlib.Omega.{arith}
+use mathlib.Core.Bool.{Bool, true, false, _||_}
 use mathlib.Core.List.{List, [], _∷_}
+use borrow.Author.Tests.{ltb-false}
+use lib.Dec.{ltb}
 use lib.ListN.{length, getD, set}
 use lib.Pow.{pow-pos, pow-add, pow-mono, shr-shr}
+use Rattle.costs.specs.Laws.{or-left}
+use Rattle.costs.specs.Table.{anyOver}
 use Rattle.window.specs.Pack.{Keys, pack}
 
 -- the marker's place, one key more
@@ -28,10 +33,26 @@ key-lt w [] i h = pow-pos w
 key-lt w (k ∷ ks) zero h = h .0
 key-lt w (k ∷ ks) (suc i) h = key-lt w ks i (h .1)
 
+pub keys-by : (w : ℕ) (xs : List ℕ) → ((i : ℕ) → i < length xs → getD xs i 0 < 2 ^ w) → Keys w xs
+keys-by w [] h = tt
+keys-by w (k ∷ ks) h = (h 0 (omega arith), keys-by w ks (λ i l. h (suc i) (omega arith)))
+
 pub keys-set : (w : ℕ) (xs : List ℕ) (i k : ℕ) → Keys w xs → k < 2 ^ w → Keys w (set xs i k)
 keys-set w [] i k h l = tt
 keys-set w (x ∷ xs) zero k h l = (l, h .1)
 keys-set w (x ∷ xs) (suc i) k h l = (h .0, keys-set w xs i k (h .1) l)
+
+or-none : (a b : Bool) → (a || b) ≡ false → b ≡ false
+or-none true b h = let z : _≡_ {A = ℕ} 0 1 = cc in absurd (omega arith)
+or-none false b h = h
+
+-- no key over the greatest of the width
+pub keys-of : (w : ℕ) (ids : List ℕ) → anyOver (2 ^ w - 1) ids ≡ false → Keys w ids
+keys-of w [] e = tt
+keys-of w (k ∷ ks) e = (
+  omega (arith, pow-pos w, ltb-false (2 ^ w - 1) k (or-left (ltb (2 ^ w - 1) k) (anyOver (2 ^ w - 1) ks) e)),
+  keys-of w ks (or-none (ltb (2 ^ w - 1) k) (anyOver (2 ^ w - 1) ks) e),
+)
 
 -- the digit at place i is the key at i
 pub pack-get : (w : ℕ) (xs : List ℕ) (i : ℕ) → Keys w xs → i < length xs → pack w xs / 2 ^ (w * i) % 2 ^ w ≡ getD xs i 0

@@ -1,12 +1,13 @@
 // Packed windows: at most 21 keys of 6 bits, the top key lowest, and a marker bit above them, in two halves of 64 bits.
 ghost use mathlib.Core.Path.{_≡_};
-ghost use mathlib.Core.List.{List, _∷_};
+ghost use mathlib.Core.List.{List, _∷_, _++_};
 ghost use Prim.Native.Nat.{ℕ, _+_, _-_, _*_, _/_, _%_, _^_, _≤_, _<_};
-ghost use lib.ListN.{length, getD, set};
+ghost use lib.ListN.{length, getD, set, drop};
 ghost use lib.Dec.{eqb, ltb};
 ghost use Rattle.window.specs.Pack.{Keys};
 ghost use Rattle.window.specs.Packing.{packing};
 ghost use Rattle.window.specs.State.{Held, whole, swapped};
+ghost use Rattle.window.specs.Keys.{keysOf, Window};
 
 pub struct PackedState {
     pub hi: u64,
@@ -122,14 +123,14 @@ impl PackedState {
         }
     }
 
-    // The window with key at idx.
-    pub fn set(mut self, idx: usize, key: u8) -> PackedState
-        requires { ⌜ ((xs : List ℕ) × Held 6 self xs × (idx < length xs)) × (key < 64) ⌝ }
+    // The window with the key at idx, which is was, replaced.
+    fn replace(mut self, idx: usize, was: u8, key: u8) -> PackedState
+        requires { ⌜ ((xs : List ℕ) × Held 6 self xs × (idx < length xs) × (was ≡ getD xs idx 0)) × (key < 64) ⌝ }
         ensures { λ r. ⌜ ((xs : List ℕ) → Held 6 self xs → idx < length xs → Held 6 r (set xs idx key)) ⌝ }
     {
         let hi = self.hi;
         let lo = self.lo;
-        let old = self.get(idx) as u64;
+        let old = was as u64;
         let new = key as u64;
         if idx < 10 {
             self.lo = put_key(lo, (idx * 6) as u32, old, new);
@@ -142,6 +143,14 @@ impl PackedState {
         self
     }
 
+    // The window with key at idx.
+    pub fn set(self, idx: usize, key: u8) -> PackedState
+        requires { ⌜ ((xs : List ℕ) × Held 6 self xs × (idx < length xs)) × (key < 64) ⌝ }
+        ensures { λ r. ⌜ ((xs : List ℕ) → Held 6 self xs → idx < length xs → Held 6 r (set xs idx key)) ⌝ }
+    {
+        self.replace(idx, self.get(idx), key)
+    }
+
     // The window with the keys at 0 and at depth exchanged.
     pub fn swap(self, depth: usize) -> PackedState
         requires { ⌜ ((xs : List ℕ) × Held 6 self xs × (depth < length xs)) ⌝ }
@@ -149,7 +158,7 @@ impl PackedState {
     {
         let top = self.get(0);
         let other = self.get(depth);
-        self.set(0, other).set(depth, top)
+        self.replace(0, top, other).replace(depth, other, top)
     }
 
     // The window with the key at pos once more on top.
@@ -158,6 +167,22 @@ impl PackedState {
         ensures { λ r. ⌜ ((xs : List ℕ) → Held 6 self xs → pos < length xs → Held 6 r (getD xs pos 0 ∷ xs)) ⌝ }
     {
         self.push(self.get(pos))
+    }
+
+    // The keys, the top first, over the first places of a list; how many.
+    pub fn write(self, out: &mut [u8]) -> usize
+        requires { ⌜ Window self × (length (keysOf self) ≤ length (now out)) ⌝ }
+        ensures { λ n. ⌜ (n ≡ length (keysOf self)) × (now (out .exit) ≡ keysOf self ++ drop (length (keysOf self)) (now (out .entry))) ⌝ }
+    {
+        let n = self.len();
+        let mut s = self;
+        let mut i = 0;
+        while i < n {
+            out[i] = s.get(0);
+            s = s.pop();
+            i += 1;
+        }
+        n
     }
 
     // Whether the two are the same state.

@@ -1,4 +1,4 @@
--- The step is done on the stack and its code written behind the others.
+-- The step is done on the window and its code written behind the others.
 use Rattle.builders.specs.Work.{acted}
 use borrow.Author.Needs.{needs}
 use Rattle.builders.proofs.act.Statement.{statement}

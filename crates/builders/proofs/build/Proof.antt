@@ -10,7 +10,7 @@ begin-requires : tie.Need-begin-requires
 begin-requires c κs = search needs
 
 trim-requires : tie.Need-trim-requires
-trim-requires c κs = (begun-fit _ _ (c .before .before .before .before .before .before .pre .0) (fresh-begun _ _ _ (c .before .begin .ensures) (c .before .before .before .before .before .before .pre .4)), c .before .before .before .before .before .before .pre .1)
+trim-requires c κs = (begun-fit _ _ (fresh-begun _ _ _ (c .before .begin .ensures) (c .before .before .before .before .before .before .pre .4)), c .before .before .before .before .before .before .pre .1)
 
 complete-requires : tie.Need-complete-requires
 complete-requires c κs =

@@ -3,7 +3,7 @@ use mathlib.Core.Path.{refl, sym, _∙_}
 use native.Mathlib.Omega.{arith}
 use Rattle.builders.specs.TailCode.{tail-refused, tail-given, tail-accepted, tail-own}
 use Rattle.builders.specs.TailLaws.{IsTail}
-use Rattle.star_swap.specs.Check.{Taken}
+use Rattle.star_swap.specs.Check.{Taken, start-window}
 use lib.ListN.{length}
 use borrow.Author.Needs.{needs}
 use Rattle.builders.proofs.delete_tail.Statement.{statement}
@@ -23,7 +23,7 @@ slice-aggregate-tail : tie.Need-slice-aggregate-tail
 slice-aggregate-tail c = search needs
 
 tail-requires : tie.Need-tail-requires
-tail-requires c κs = (tail-own _ _ _ (allowed (c .before) .1), refl)
+tail-requires c κs = let a = allowed (c .before) in (start-window _ _ _ _ (a .0), tail-own _ _ _ (a .1), refl)
 
 slice-aggregate-give : tie.Need-slice-aggregate-give
 slice-aggregate-give c = search needs

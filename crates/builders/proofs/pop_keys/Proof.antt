@@ -15,7 +15,7 @@ abbrev μ-loop : tie.MeasureT-loop
 μ-loop n steps₀ w₀ i₀ steps w i = n - i
 
 loop-holds : tie.Need-loop-holds Inv-loop μ-loop
-loop-holds c = (popping-first _ _, search needs)
+loop-holds c = (popping-first _ _ (c .before .pre .0), search needs)
 
 act-requires : tie.Need-act-requires Inv-loop μ-loop
 act-requires c κs = search needs

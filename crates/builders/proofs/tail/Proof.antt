@@ -20,7 +20,7 @@ bury-keys-requires c κs =
     let at-begin = c .before in
     let at-lesser = at-begin .before in
     let s = at-lesser .before .before .before .before in
-    (can-bury _ _ (s .pre .0) _ (fresh-begun _ _ _ (at-begin .begin .ensures) (s .pre .1)) _ (at-lesser .lesser .ensures), s .pre .1)
+    (can-bury _ _ (s .pre .1) _ (fresh-begun _ _ _ (at-begin .begin .ensures) (s .pre .2)) _ (at-lesser .lesser .ensures), s .pre .2)
 
 sub-pop-keys : tie.Need-sub-pop-keys
 sub-pop-keys c = search needs
@@ -31,7 +31,7 @@ pop-keys-requires c κs =
     let at-begin = at-bury-keys .before .before in
     let at-lesser = at-begin .before in
     let s = at-lesser .before .before .before .before in (
-      can-pop _ _ (s .pre .0) _ (fresh-begun _ _ _ (at-begin .begin .ensures) (s .pre .1)) _ _ _ (at-lesser .lesser .ensures) refl
+      can-pop _ _ (s .pre .1) _ (fresh-begun _ _ _ (at-begin .begin .ensures) (s .pre .2)) _ _ _ (at-lesser .lesser .ensures) refl
           (at-bury-keys .bury-keys .ensures),
       search needs,
     )
@@ -43,7 +43,7 @@ route-requires c κs =
     let at-begin = at-bury-keys .before .before in
     let at-lesser = at-begin .before in
     let s = at-lesser .before .before .before .before in
-    tail-route _ _ (s .pre .0) _ (fresh-begun _ _ _ (at-begin .begin .ensures) (s .pre .1)) _ _ _ _ (at-lesser .lesser .ensures) refl
+    tail-route _ _ (s .pre .1) _ (fresh-begun _ _ _ (at-begin .begin .ensures) (s .pre .2)) _ _ _ _ (at-lesser .lesser .ensures) refl
     (at-bury-keys .bury-keys .ensures) (at-pop-keys .pop-keys .ensures)
 
 same-length : tie.Need-same-length
@@ -57,7 +57,7 @@ returns c =
     let at-begin = at-bury-keys .before .before in
     let at-lesser = at-begin .before in
     let s = at-lesser .before .before .before .before in
-    tail-wrote _ _ (s .pre .0) _ (fresh-begun _ _ _ (at-begin .begin .ensures) (s .pre .1)) _ _ _ _ (at-lesser .lesser .ensures) refl
+    tail-wrote _ _ (s .pre .1) _ (fresh-begun _ _ _ (at-begin .begin .ensures) (s .pre .2)) _ _ _ _ (at-lesser .lesser .ensures) refl
     (at-bury-keys .bury-keys .ensures) (at-pop-keys .pop-keys .ensures) _ (at-route .route .ensures)
 
 pub tail-spec : {M : Type 1} → statement M

@@ -16,7 +16,7 @@ slice-aggregate-tail : tie.Need-slice-aggregate-tail
 slice-aggregate-tail c = search needs
 
 tail-requires : tie.Need-tail-requires
-tail-requires c κs = (tail-is _ _ _ (c .before .before .before .before .before .before .args .steps .now) _ (c .before .before .not-tail .ensures) (c .before .if1 .left) (c .before .before .before .before .before .before .pre .0) (c .before .before .before .before .before .before .pre .1), refl)
+tail-requires c κs = (c .before .before .before .before .before .before .pre .0, tail-is _ _ _ (c .before .before .before .before .before .before .args .steps .now) _ (c .before .before .not-tail .ensures) (c .before .if1 .left) (c .before .before .before .before .before .before .pre .0) (c .before .before .before .before .before .before .pre .1), refl)
 
 slice-aggregate-give : tie.Need-slice-aggregate-give
 slice-aggregate-give c = search needs

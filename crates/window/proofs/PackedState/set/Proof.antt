@@ -1,149 +1,18 @@
--- `window::PackedState::set` meets its contract: the digit at idx lies in the lower half, across the halves, or in the upper half.
-use mathlib.Core.Path.{_≡_, refl, sym, ap, _∙_, subst}
-use Prim.Native.Nat.{ℕ, _+_, _-_, _*_, _/_, _%_, _^_, _≤_, _<_}
-use native.Mathlib.Nat.{mul-assoc, add-mul}
-use native.Mathlib.Omega.{arith}
-use mathlib.Core.List.{List}
-use lib.ListN.{length, getD}
-use lib.Dec.{lit<}
-use lib.Pow.{pow-add}
-use Rattle.window.specs.State.{Held, whole}
-use Rattle.window.proofs.Halves.{far}
-use Rattle.window.proofs.Put.{near, across-set, upper-set}
-use Rattle.window.proofs.Tops.{held-fits, held-digit, held-set}
+-- `window::PackedState::set` meets its contract: the key that get gives is replaced.
 use borrow.Author.Needs.{needs}
 use Rattle.window.proofs.PackedState.set.Statement.{statement}
 use Rattle.window.proofs.PackedState.set.Tie as tie
-use Rattle.window.proofs.PackedState.set.Reads as reads
-use Rattle.window.proofs.PackedState.set.Lts as lts
-use Rattle.window.proofs.PackedState.get.Reads as get-reads
-use Rattle.window.proofs.put_key.Reads as put-key-reads
 
-short : (c : tie.Start) → length (c .pre .0 .0) ≤ 21
-short c = omega (arith, held-fits 6 (c .args .self) (c .pre .0 .0) (c .pre .0 .1) (omega arith) (omega arith))
-
-lower : (c : tie.Start) → c .args .self .lo < 2 ^ 64
-lower c = omega arith
-
-high-place : (c : tie.Else2) → 64 ≤ c .before .before .before .args .idx * 6
-high-place c = omega arith
-
-low-shift : (c : tie.Else2) → c .before .before .before .args .idx * 6 - 64 ≤ 58
-low-shift c = omega (arith, short (c .before .before .before))
-
--- the key that get gives is the digit
-old : (c : tie.After-get) → c .get .result ≡ whole (c .before .args .self) / 2 ^ (c .before .args .idx * 6) % 64
-old c =
-    let p = c .before .pre .0 in
-    c .get .ensures (p .0) (p .1) (p .2) ∙ sym (held-digit 6 (c .before .args .self) (p .0) (p .1) (c .before .args .idx) (p .2))
-
--- src/lib.rt:87:19
 get-requires : tie.Need-get-requires
 get-requires c κs = search needs
 
--- src/lib.rt:87:19
-cast-old : tie.Need-cast-old
-cast-old c = search needs
+replace-requires : tie.Need-replace-requires
+replace-requires c κs =
+    let p = c .before .pre in
+    ((p .0 .0, p .0 .1, p .0 .2, c .get .ensures (p .0 .0) (p .0 .1) (p .0 .2)), p .1)
 
--- src/lib.rt:90:36
-mul-put-key : tie.Need-mul-put-key
-mul-put-key c = search needs
-
--- src/lib.rt:90:35
-cast-put-key : tie.Need-cast-put-key
-cast-put-key c = search needs
-
--- src/lib.rt:90:13
-put-key-requires : tie.Need-put-key-requires
-unfolding whole
-put-key-requires c κs =
-    let a = c .before .before .args in
-    let l : a .idx * 6 ≤ 58 = omega arith in
-    (l, old (c .before) ∙ near (a .self .hi) (a .self .lo) (a .idx * 6) l, c .before .before .pre .1)
-
--- src/lib.rt:92:23
-add-self : tie.Need-add-self
-add-self c = search needs
-
--- src/lib.rt:93:23
-mul-self : tie.Need-mul-self
-mul-self c = search needs
-
--- src/lib.rt:93:23
-add-self-2 : tie.Need-add-self-2
-add-self-2 c = search needs
-
--- src/lib.rt:95:36
-mul-put-key-2 : tie.Need-mul-put-key-2
-mul-put-key-2 c = omega (arith, short (c .before .before .before))
-
--- src/lib.rt:95:35
-cast-put-key-2 : tie.Need-cast-put-key-2
-cast-put-key-2 c = omega (arith, short (c .before .before .before))
-
--- src/lib.rt:95:35
-sub-put-key : tie.Need-sub-put-key
-sub-put-key c = search needs
-
--- src/lib.rt:95:13
-put-key-requires-2 : tie.Need-put-key-requires-2
-unfolding whole
-put-key-requires-2 c κs =
-    let a = c .before .before .before .args in (
-      low-shift c,
-      old (c .before .before) ∙ ap (λ (v : ℕ). v % 64) (far (a .self .hi) (a .self .lo) (a .idx * 6) (high-place c) (lower (c .before .before .before))),
-      c .before .before .before .pre .1,
-    )
-
--- src/lib.rt:81:5
 returns : tie.Need-returns
-unfolding whole
-returns c = λ xs h l.
-    let b = c .before .before .before in
-    let g = c .before .before .get .ensures xs h l in
-    held-set 6 (b .args .self) xs h _ (b .args .idx) (b .args .key) l (b .pre .1)
-    (rw (← g) (omega (arith, c .put-key .ensures)))
-
--- src/lib.rt:81:5
-returns-2 : tie.Need-returns-2
-unfolding whole
-returns-2 c = λ xs h l.
-    let b = c .before .before .before in
-    let a = b .args in
-    let g = c .before .before .get .ensures xs h l in
-    let e : a .idx * 6 ≡ 60 = ap (λ (i : ℕ). i * 6) (c .if2 .taken) in
-    held-set 6 (a .self) xs h _ (a .idx) (a .key) l (b .pre .1)
-    (rw (← g, e)
-    (across-set (a .self .hi) (a .self .lo) (a .key) (c .before .before .get .result) (lower b)
-    (old (c .before .before) ∙ ap (λ (i : ℕ). whole (a .self) / 2 ^ i % 64) e)))
-
--- src/lib.rt:81:5
-returns-3 : tie.Need-returns-3
-unfolding whole
-returns-3 c = λ xs h l.
-    let b = c .before .before .before .before in
-    let a = b .args in
-    let g = c .before .before .before .get .ensures xs h l in
-    held-set 6 (a .self) xs h _ (a .idx) (a .key) l (b .pre .1)
-    (rw (← g)
-    (upper-set (c .put-key2 .result) (a .self .hi) (a .self .lo) (c .before .before .before .get .result) (a .key) (a .idx * 6) (high-place (c .before)) (c .put-key2 .ensures)))
+returns c = c .replace .ensures
 
 pub set-spec : {M : Type 1} → statement M
-set-spec =
-    tie.close
-    (tie.spec
-    get-requires
-    cast-old
-    mul-put-key
-    cast-put-key
-    put-key-requires
-    add-self
-    mul-self
-    add-self-2
-    mul-put-key-2
-    cast-put-key-2
-    sub-put-key
-    put-key-requires-2
-    returns
-    returns-2
-    returns-3)
+set-spec = tie.close (tie.spec get-requires replace-requires returns)
