@@ -6,7 +6,7 @@ use Prim.Native.Nat.{ℕ, _+_, _*_, _/_, _%_, _≤_, _<_}
 use native.Mathlib.Omega.{arith}
 use borrow.Author.Tests.{ne-eqb, eq-eqb}
 use mathlib.Core.Logic.{_⊎_, inl, inr, ⊎-elim}
-use Rattle.nodes.proofs.Lemmas.{dec-eq, by-lt}
+use Rattle.nodes.proofs.Lemmas.{dec-eq}
 use Rattle.window.specs.State.{whole}
 use lib.Dec.{eqb}
 use Rattle.costs.specs.Choice.{_if_otherwise_}
@@ -30,9 +30,6 @@ none-kind c a b d e f = rw (ne-eqb _ _ a, ne-eqb _ _ b, ne-eqb _ _ d, ne-eqb _ _
 
 over-none : (c : ℕ) → 65536 ≤ c → decoded c ≡ Unknown
 over-none c l = none-kind c (λ x. omega arith) (λ x. omega arith) (λ x. omega arith) (λ x. omega arith) (λ x. omega arith)
-
-by-le : {P : Type 0} (a b : ℕ) → (a ≤ b → P) → (b < a → P) → P
-by-le a b f g = by-lt b a g f
 
 some-eq : {s a b : ℕ} → a ≡ b → _≡_ {A = Option (ℕ × ℕ)} (some (s, a)) (some (s, b))
 some-eq e = cc
@@ -64,9 +61,6 @@ node-row r p e = node-eq e
 pub row-start : (k : Node) → k .parent ≡ Start → nodeOf (record { hi = k .state .hi; lo = k .state .lo; cost = k .cost; phi = 0; plo = 0; step = 65536 }) ≡ nodeIs k
 row-start k e = node-eq (sym (parent-over 0 0 65536 (omega arith)) ∙ sym (ap parentIs e))
 
-no-kind : (c : ℕ) → (c ≡ 0 → ⊥) → (c / 256 ≡ 1 → ⊥) → (c / 256 ≡ 2 → ⊥) → (c / 256 ≡ 3 → ⊥) → (c / 256 ≡ 4 → ⊥) → (s : Step) → decoded c ≡ Coded s → ⊥
-no-kind c a b d e f s q = let z : _≡_ {A = ℕ} 0 1 = cc (none-kind c a b d e f) in omega arith
-
 -- a code below 1280 that is of some step stands for a step of that code
 of-kind : (c : ℕ) → 256 ≤ c → c < 1280 → (s : PackedState) → parentIs (parentBy s (ofKind (c / 256) (c % 256))) ≡ some (whole s, c)
 of-kind c l h s =
@@ -79,17 +73,6 @@ code-some : (c : ℕ) → (c ≡ 0) ⊎ (256 ≤ c) → c < 1280 → (hi lo : �
 unfolding parentOf decoded
 code-some c (inl e) h hi lo = rw e
 code-some c (inr l) h hi lo = let n : c ≡ 0 → ⊥ = omega arith in rw (ne-eqb _ _ n) (of-kind c l h (record { hi = hi; lo = lo }))
-
--- a number that stands for a step is that step's code
-pub code-parent : (c : ℕ) (s : Step) → decoded c ≡ Coded s → (hi lo : ℕ) → parentOf hi lo c ≡ some (stateOf hi lo, c)
-unfolding decoded
-code-parent c s e hi lo =
-    by-eq c 0 (λ z. code-some c (inl z) (omega arith) hi lo)
-    (λ z. by-le 256 c
-    (λ l. by-le 1280 c
-    (λ h. absurd (no-kind c z (λ x. omega arith) (λ x. omega arith) (λ x. omega arith) (λ x. omega arith) s e))
-    (λ h. code-some c (inr l) (omega arith) hi lo))
-    (λ l. absurd (no-kind c z (λ x. omega arith) (λ x. omega arith) (λ x. omega arith) (λ x. omega arith) s e)))
 
 code-kind : (s : Step) → (codeOf s ≡ 0) ⊎ (256 ≤ codeOf s)
 code-kind Pop = inl refl

@@ -41,7 +41,7 @@ fn code_of(x: u64) -> u16
 }
 
 // The parent by a step's code; a number that is no step's code gives none.
-pub fn parent_by(from: PackedState, code: u16) -> Parent
+fn parent_by(from: PackedState, code: u16) -> Parent
     ensures { λ r. ⌜ parentIs r ≡ parentOf (from .hi) (from .lo) code ⌝ }
 {
     let Decoded::Known(step) = costs::decode(code) else {
@@ -137,7 +137,7 @@ pub fn recall(nodes: &[u64], heads: &[u64], n: usize, state: PackedState) -> Kno
 }
 
 // Stores a row where its state was sought; the number of nodes then.
-pub fn store_row(nodes: &mut [u64], heads: &mut [u64], n: usize, at: Found, row: Row) -> usize
+fn store_row(nodes: &mut [u64], heads: &mut [u64], n: usize, at: Found, row: Row) -> usize
     requires { ⌜ Kept (now nodes) (now heads) n ⌝ }
     requires { ⌜ n * 8 + 8 ≤ length (now nodes) ⌝ }
     requires { ⌜ Sought (now nodes) n (row .hi) (row .lo) at ⌝ }

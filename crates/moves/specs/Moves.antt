@@ -2,13 +2,14 @@
 use Prim.Native.Nat.{ℕ, _≤_, _<_}
 use mathlib.Core.Path.{_≡_}
 use mathlib.Core.List.{List, []}
+use lib.Dec.{eqb}
 use lib.ListN.{length}
+use Rattle.costs.specs.Choice.{_if_otherwise_}
 use Rattle.costs.specs.declared.Cost.{Cost}
 use Rattle.costs.specs.declared.Step.{Step}
 use Rattle.costs.specs.declared.Step.the-variants.{Pop, Dup, Swap, PushImm, LoadVal}
 use Rattle.costs.specs.Packed.{costOf}
 use Rattle.costs.specs.Price.{pairAt}
-use Rattle.costs.specs.Step.{codeOf}
 use Rattle.replay.specs.Machine.{after}
 use Rattle.window.specs.declared.PackedState.{PackedState}
 use Rattle.window.specs.Pack.{Keys, pack}
@@ -43,25 +44,29 @@ pub record Asking (prices : List ℕ) (want keys goal : List ℕ) : Type 0 where
   pub short : length goal ≤ 21
   pub keys-are : keys ≡ firsts goal
 
+-- the step that makes a key, by the kind of its code: 3 pushes it, another loads it
+abbrev pub makes : ℕ → ℕ → Step
+makes kind k = PushImm k if eqb kind 3 otherwise LoadVal k
+
 -- the state of a move
 abbrev pub stateOf : Move → PackedState
 stateOf r = record { hi = r .hi; lo = r .lo }
 
 -- the move r is to a state, at the price of a pair of the list, with an estimate of so much gas
-pub record Formed (prices : List ℕ) (state : PackedState) (pair gas code : ℕ) (r : Move) : Type 0 where
+pub record Formed (prices : List ℕ) (state : PackedState) (pair gas : ℕ) (step : Step) (r : Move) : Type 0 where
   pub state-is : stateOf r ≡ state
   pub price : costOf (r .price) ≡ pairAt prices pair
   pub est : costOf (r .est) ≡ record { gas = gas; bytes = 0 }
-  pub step : r .step ≡ code
+  pub by : r .step ≡ step
 
--- the move r leads to the window u, at the price of a pair of the list, by the step of the code
-pub record Leads (prices : List ℕ) (dupMax : ℕ) (goal u : List ℕ) (pair code : ℕ) (r : Move) : Type 0 where
+-- the move r leads to the window u, at the price of a pair of the list, by the step
+pub record Leads (prices : List ℕ) (dupMax : ℕ) (goal u : List ℕ) (pair : ℕ) (step : Step) (r : Move) : Type 0 where
   pub window : whole (stateOf r) ≡ pack 6 u
   pub keys : Keys 6 u
   pub fits : length u ≤ 21
   pub price : costOf (r .price) ≡ pairAt prices pair
   pub est : costOf (r .est) ≡ heuristicOf prices dupMax goal u
-  pub step : r .step ≡ code
+  pub by : r .step ≡ step
 
 -- what is told of the step s from the window w
 pub record Told (prices : List ℕ) (dupMax : ℕ) (goal w : List ℕ) (s : Step) (r : Move) : Type 0 where
@@ -70,4 +75,4 @@ pub record Told (prices : List ℕ) (dupMax : ℕ) (goal w : List ℕ) (s : Step
   pub fits : length (after s w) ≤ 21
   pub price : costOf (r .price) ≡ priceBy prices s
   pub est : costOf (r .est) ≡ heuristicOf prices dupMax goal (after s w)
-  pub step : r .step ≡ codeOf s
+  pub by : r .step ≡ s

@@ -3,6 +3,7 @@ use Prim.Native.Nat.{ℕ, zero, suc, _+_, _*_, _/_, _%_, _≤_, _<_}
 use mathlib.Core.Path.{_≡_, refl, sym, ap, _∙_, subst}
 use mathlib.Core.List.{List, [], _∷_}
 use native.Mathlib.Omega.{arith}
+use borrow.Author.Tests.{eq-eqb, ne-eqb}
 use lib.ListN.{length, getD, length-drop, length-set}
 use Rattle.costs.specs.declared.Cost.{Cost}
 use Rattle.costs.specs.declared.Step.{Step}
@@ -11,6 +12,7 @@ use Rattle.costs.specs.Packed.{costOf}
 use Rattle.costs.specs.Price.{pairAt}
 use Rattle.costs.specs.Step.{codeOf, pairOf}
 use Rattle.replay.specs.Machine.{after}
+use Rattle.replay.specs.Steps.{after-dup, after-swap, after-push, after-load}
 use Rattle.window.specs.declared.PackedState.{PackedState}
 use Rattle.window.specs.Pack.{Keys, pack}
 use Rattle.window.specs.State.{Held, whole, swapped}
@@ -24,7 +26,7 @@ use Rattle.successors.specs.Parts.{All}
 use Rattle.successors.specs.Limits.{firsts-keys}
 use Rattle.heuristic.specs.Steady.{Cheap, Standing, same-counts, count-swapped}
 use Rattle.moves.specs.declared.Move.{Move}
-use Rattle.moves.specs.Moves.{Doable, Parent, Asking, stateOf, Formed, Leads, Told}
+use Rattle.moves.specs.Moves.{Doable, Parent, Asking, makes, stateOf, Formed, Leads, Told}
 use Rattle.moves.specs.Codes.{code-pop, code-dup, code-swap}
 
 -- the estimate of a window as a cost
@@ -33,15 +35,15 @@ unfolding heuristicOf estimate
 cost-is prices dup dupMax goal u x e h = rw (← e, ← h)
 
 -- a move formed to a state that holds the window u
-pub leads-by : (prices : List ℕ) (dup dupMax : ℕ) (goal u : List ℕ) (state : PackedState) (pair gas code : ℕ) (r : Move) → dup ≡ leastDup prices dupMax → Held 6 state u → length u ≤ 21 → gas ≡ sumTo (keyTerm prices dup goal u) 64 → Formed prices state pair gas code r → Leads prices dupMax goal u pair code r
-leads-by prices dup dupMax goal u state pair gas code r e h l g f =
+pub leads-by : (prices : List ℕ) (dup dupMax : ℕ) (goal u : List ℕ) (state : PackedState) (pair gas : ℕ) (s : Step) (r : Move) → dup ≡ leastDup prices dupMax → Held 6 state u → length u ≤ 21 → gas ≡ sumTo (keyTerm prices dup goal u) 64 → Formed prices state pair gas s r → Leads prices dupMax goal u pair s r
+leads-by prices dup dupMax goal u state pair gas s r e h l g f =
     record {
       window = ap whole (f .state-is) ∙ h .value;
       keys = h .keys;
       fits = l;
       price = f .price;
       est = f .est ∙ cost-is prices dup dupMax goal u gas e g;
-      step = f .step;
+      by = f .by;
     }
 
 -- a window with a key is its top key and the rest
@@ -73,19 +75,19 @@ module _ (prices : List ℕ) (dup h : ℕ) (have want : List ℕ) (state : Packe
 
   -- the three kinds of window after a step
   module _ (goal : List ℕ) (dupMax : ℕ) (p : Parent prices dup h have want state goal dupMax) (next : PackedState) (gas : ℕ) (r : Move) where
-    pub pop-leads : (key : ℕ) → 0 < length (keysOf state) → key ≡ getD (keysOf state) 0 0 → ((v g : List ℕ) → Standing prices dup h have want (key ∷ v) g → gas ≡ sumTo (keyTerm prices dup g v) 64) → ((k : ℕ) → (xs : List ℕ) → Held 6 state (k ∷ xs) → Held 6 next xs) → Formed prices next 0 gas 0 r → Leads prices dupMax goal (after Pop (keysOf state)) 0 0 r
+    pub pop-leads : (key : ℕ) → 0 < length (keysOf state) → key ≡ getD (keysOf state) 0 0 → ((v g : List ℕ) → Standing prices dup h have want (key ∷ v) g → gas ≡ sumTo (keyTerm prices dup g v) 64) → ((k : ℕ) → (xs : List ℕ) → Held 6 state (k ∷ xs) → Held 6 next xs) → Formed prices next 0 gas Pop r → Leads prices dupMax goal (after Pop (keysOf state)) 0 Pop r
     pop-leads key l e g f m =
-        leads-by prices dup dupMax goal (after Pop (keysOf state)) next 0 gas 0 r (p .least) (f key (after Pop (keysOf state)) (held-top goal dupMax key p l e)) (rest-fits state)
+        leads-by prices dup dupMax goal (after Pop (keysOf state)) next 0 gas Pop r (p .least) (f key (after Pop (keysOf state)) (held-top goal dupMax key p l e)) (rest-fits state)
         (g (after Pop (keysOf state)) goal (standing-top goal dupMax key p l e)) m
 
-    pub push-leads : (key pair code : ℕ) → length (keysOf state) < 21 → ((v g : List ℕ) → Standing prices dup h have want v g → length v + length g < 42 → gas ≡ sumTo (keyTerm prices dup g (key ∷ v)) 64) → ((xs : List ℕ) → Held 6 state xs → Held 6 next (key ∷ xs)) → Formed prices next pair gas code r → Leads prices dupMax goal (key ∷ keysOf state) pair code r
-    push-leads key pair code l g f m =
-        leads-by prices dup dupMax goal (key ∷ keysOf state) next pair gas code r (p .least) (f (keysOf state) (p .window)) (omega arith)
+    pub push-leads : (key pair : ℕ) (s : Step) → length (keysOf state) < 21 → ((v g : List ℕ) → Standing prices dup h have want v g → length v + length g < 42 → gas ≡ sumTo (keyTerm prices dup g (key ∷ v)) 64) → ((xs : List ℕ) → Held 6 state xs → Held 6 next (key ∷ xs)) → Formed prices next pair gas s r → Leads prices dupMax goal (key ∷ keysOf state) pair s r
+    push-leads key pair s l g f m =
+        leads-by prices dup dupMax goal (key ∷ keysOf state) next pair gas s r (p .least) (f (keysOf state) (p .window)) (omega arith)
         (g (keysOf state) goal (p .standing) (omega (arith, p .short))) m
 
-    pub swap-leads : (d code : ℕ) → gas ≡ h → 0 < d → d < length (keysOf state) → ((xs : List ℕ) → Held 6 state xs → d < length xs → Held 6 next (swapped xs d)) → Formed prices next (17 + d) gas code r → Leads prices dupMax goal (swapped (keysOf state) d) (17 + d) code r
-    swap-leads d code q z l f m =
-        leads-by prices dup dupMax goal (swapped (keysOf state) d) next (17 + d) gas code r (p .least) (f (keysOf state) (p .window) l) (swap-fits state d)
+    pub swap-leads : (d : ℕ) (s : Step) → gas ≡ h → 0 < d → d < length (keysOf state) → ((xs : List ℕ) → Held 6 state xs → d < length xs → Held 6 next (swapped xs d)) → Formed prices next (17 + d) gas s r → Leads prices dupMax goal (swapped (keysOf state) d) (17 + d) s r
+    swap-leads d s q z l f m =
+        leads-by prices dup dupMax goal (swapped (keysOf state) d) next (17 + d) gas s r (p .least) (f (keysOf state) (p .window) l) (swap-fits state d)
         (q ∙ swap-sum prices dup h have want (keysOf state) goal d (p .standing) z l) m
 
 all-at : (P : ℕ → Type 0) (xs : List ℕ) → All P xs → (i : ℕ) → i < length xs → P (getD xs i 0)
@@ -106,33 +108,45 @@ parent-is prices dup h have want state goal dupMax v s l m = record { window = v
 -- ---- what is told of a step, by what its code led to
 
 module _ (prices : List ℕ) (dupMax : ℕ) (goal w : List ℕ) (r : Move) where
-  leads-as : (u v : List ℕ) (p q a b : ℕ) → u ≡ v → p ≡ q → a ≡ b → Leads prices dupMax goal u p a r → Leads prices dupMax goal v q b r
-  leads-as u v p q a b e f g l = rw (← e, ← f, ← g) l
-
-  told-of : (s : Step) → Leads prices dupMax goal (after s w) (pairOf s) (codeOf s) r → Told prices dupMax goal w s r
+  told-of : (s : Step) → Leads prices dupMax goal (after s w) (pairOf s) s r → Told prices dupMax goal w s r
   unfolding priceBy
-  told-of s l = record { window = l .window; keys = l .keys; fits = l .fits; price = l .price; est = l .est; step = l .step }
+  told-of s l = record { window = l .window; keys = l .keys; fits = l .fits; price = l .price; est = l .est; by = l .by }
+
+  told-as : (s t : Step) → s ≡ t → Told prices dupMax goal w t r → Told prices dupMax goal w s r
+  told-as s t e l = subst (λ (x : Step). Told prices dupMax goal w x r) (sym e) l
+
+  -- a key made, or copied, on top
+  leads-on : (u v : List ℕ) (pair : ℕ) (s : Step) → u ≡ v → Leads prices dupMax goal u pair s r → Leads prices dupMax goal v pair s r
+  leads-on u v pair s e l = subst (λ (x : List ℕ). Leads prices dupMax goal x pair s r) e l
 
   module _ (c : ℕ) (small : length w ≤ 21) (s : Step) (e : c ≡ codeOf s) (d : Doable s (length w)) where
-    pub told-pop : c / 256 ≡ 0 → Leads prices dupMax goal (after Pop w) 0 0 r → Told prices dupMax goal w s r
-    told-pop k l = subst (λ (t : Step). Told prices dupMax goal w t r) (sym (code-pop (length w) c small s e d k)) (told-of Pop l)
+    pub told-pop : c / 256 ≡ 0 → Leads prices dupMax goal (after Pop w) 0 Pop r → Told prices dupMax goal w s r
+    told-pop k l = told-as s Pop (code-pop (length w) c small s e d k) (told-of Pop l)
 
-    pub told-dup : (key place : ℕ) → c / 256 ≡ 1 → place ≡ c % 256 → key ≡ getD w place 0 → Leads prices dupMax goal (key ∷ w) (1 + place) c r → Told prices dupMax goal w s r
-    unfolding after
+    pub told-dup : (key place : ℕ) → c / 256 ≡ 1 → place ≡ c % 256 → key ≡ getD w place 0 → Leads prices dupMax goal (key ∷ w) (1 + place) (Dup place) r → Told prices dupMax goal w s r
     told-dup key place k p y l =
-        let z : s ≡ Dup place = code-dup (length w) c small s e d k ∙ ap Dup (sym p) in
-        subst (λ (t : Step). Told prices dupMax goal w t r) (sym z) (told-of (Dup place) (leads-as (key ∷ w) (getD w place 0 ∷ w) (1 + place) (1 + place) c (256 + place) (ap (λ (x : ℕ). x ∷ w) y) refl (e ∙ ap codeOf z) l))
+        told-as s (Dup place) (code-dup (length w) c small s e d k ∙ ap Dup (sym p))
+        (told-of (Dup place) (leads-on (key ∷ w) (after (Dup place) w) (1 + place) (Dup place) (ap (λ (x : ℕ). x ∷ w) y ∙ sym (after-dup place w)) l))
 
-    pub told-swap : (depth : ℕ) → c / 256 ≡ 2 → depth ≡ c % 256 → Leads prices dupMax goal (swapped w depth) (17 + depth) c r → Told prices dupMax goal w s r
-    unfolding after
+    pub told-swap : (depth : ℕ) → c / 256 ≡ 2 → depth ≡ c % 256 → Leads prices dupMax goal (swapped w depth) (17 + depth) (Swap depth) r → Told prices dupMax goal w s r
     told-swap depth k p l =
-        let z : s ≡ Swap depth = code-swap (length w) c small s e d k ∙ ap Swap (sym p) in
-        subst (λ (t : Step). Told prices dupMax goal w t r) (sym z) (told-of (Swap depth) (leads-as (swapped w depth) (swapped w depth) (17 + depth) (17 + depth) c (512 + depth) refl refl (e ∙ ap codeOf z) l))
+        told-as s (Swap depth) (code-swap (length w) c small s e d k ∙ ap Swap (sym p))
+        (told-of (Swap depth) (leads-on (swapped w depth) (after (Swap depth) w) (17 + depth) (Swap depth) (sym (after-swap depth w)) l))
 
-  pub told-push : (c key : ℕ) (s : Step) → length w ≤ 21 → c ≡ codeOf s → Doable s (length w) → ¬ (c / 256 ≡ 0) → ¬ (c / 256 ≡ 1) → ¬ (c / 256 ≡ 2) → key ≡ c % 256 → Leads prices dupMax goal (key ∷ w) (34 + key) c r → Told prices dupMax goal w s r
-  unfolding after
-  told-push c key Pop m e d x y z k l = absurd (x (omega arith))
-  told-push c key (Dup p) m e d x y z k l = absurd (y (omega (arith, d .0)))
-  told-push c key (Swap p) m e d x y z k l = absurd (z (omega (arith, d .1)))
-  told-push c key (PushImm p) m e d x y z k l = let q : key ≡ p = omega (arith, d .0) in told-of (PushImm p) (leads-as (key ∷ w) (p ∷ w) (34 + key) (34 + p) c (768 + p) (ap (λ (x : ℕ). x ∷ w) q) (ap (λ (x : ℕ). 34 + x) q) e l)
-  told-push c key (LoadVal p) m e d x y z k l = let q : key ≡ p = omega (arith, d .0) in told-of (LoadVal p) (leads-as (key ∷ w) (p ∷ w) (34 + key) (34 + p) c (1024 + p) (ap (λ (x : ℕ). x ∷ w) q) (ap (λ (x : ℕ). 34 + x) q) e l)
+    pub told-push : (key : ℕ) → ¬ (c / 256 ≡ 0) → ¬ (c / 256 ≡ 1) → ¬ (c / 256 ≡ 2) → key ≡ c % 256 → Leads prices dupMax goal (key ∷ w) (34 + key) (makes (c / 256) key) r → Told prices dupMax goal w s r
+    told-push key x y z k l = go s e d refl
+      where
+        go : (t : Step) → c ≡ codeOf t → Doable t (length w) → t ≡ s → Told prices dupMax goal w s r
+        go Pop e d q = absurd (x (omega arith))
+        go (Dup p) e d q = absurd (y (omega (arith, d .0)))
+        go (Swap p) e d q = absurd (z (omega (arith, d .1)))
+        go (PushImm p) e d q =
+            let i : key ≡ p = omega (arith, d .0) in
+            let j : c / 256 ≡ 3 = omega (arith, d .0) in
+            let m = rw (eq-eqb _ _ j, i) at l in
+            told-as s (PushImm p) (sym q) (told-of (PushImm p) (leads-on (p ∷ w) (after (PushImm p) w) (34 + p) (PushImm p) (sym (after-push p w)) m))
+        go (LoadVal p) e d q =
+            let i : key ≡ p = omega (arith, d .0) in
+            let j : c / 256 ≡ 3 → ⊥ = omega (arith, d .0) in
+            let m = rw (ne-eqb _ _ j, i) at l in
+            told-as s (LoadVal p) (sym q) (told-of (LoadVal p) (leads-on (p ∷ w) (after (LoadVal p) w) (34 + p) (LoadVal p) (sym (after-load p w)) m))

@@ -15,12 +15,11 @@ use Rattle.astar.specs.Search.{Problem, Succ, Entry, Work, Hand, find, store, p
 use Rattle.heap.specs.declared.Entry.{Entry as Waiting}
 use Rattle.nodes.specs.declared.Found.{Found}
 use Rattle.nodes.specs.declared.Found.the-variants.{At, Nothing}
-use Rattle.lists.specs.View.{SearchNode, parentOf, nodeOf as nodeOfRow, nodesOf, queueOf, waits, nodeFound, Kept, Piled, Sought, Stored, Pushed}
-use Rattle.nodes.specs.declared.Row.{Row}
+use Rattle.lists.specs.View.{SearchNode, nodeIs, nodesOf, queueOf, waits, nodeFound, Kept, Piled, Sought, Stored, Pushed}
+use Rattle.lists.specs.declared.Node.{Node}
 use Rattle.lists.proofs.Nodes.{there-room}
-use Rattle.lists.proofs.Rows.{code-parent}
 use Rattle.offer.specs.Rules.{estimated, bare}
-use Rattle.offer.specs.View.{sum, IsCode, succOf, handOf, workOf, Inside, nodeFor, Admitted, Now, offered}
+use Rattle.offer.specs.View.{sum, succOf, handOf, workOf, Inside, nodeFor, Admitted, Now, offered}
 use Rattle.offer.specs.declared.Successor.{Successor}
 use Rattle.offer.specs.declared.Held.{Held}
 use Rattle.offer.specs.declared.Sizes.{Sizes}
@@ -42,14 +41,14 @@ work-eq e f = cc
 pub all-inside : (xs hs : List ℕ) (n hi lo : ℕ) (at : Found) → Kept xs hs n → Sought xs n hi lo at → Inside xs at
 all-inside xs hs n hi lo at K S i e = there-room xs n hi lo i at e S hs K
 
-pub sought-row : (xs : List ℕ) (n : ℕ) (x : Successor) (at : Found) (v : Row) → Sought xs n (x .state .hi) (x .state .lo) at → v .hi ≡ x .state .hi → v .lo ≡ x .state .lo → Sought xs n (v .hi) (v .lo) at
-sought-row xs n x at v S e f = rw (e, f) S
+pub sought-node : (xs : List ℕ) (n : ℕ) (x : Successor) (at : Found) (v : Node) → Sought xs n (x .state .hi) (x .state .lo) at → v .state ≡ x .state → Sought xs n (v .state .hi) (v .state .lo) at
+sought-node xs n x at v S e = rw e S
 
 module _ (xs : List ℕ) (n : ℕ) (p : Origin) (x : Successor) (g : ℕ) (at : Found) (t : Bool) (S : Sought xs n (x .state .hi) (x .state .lo) at) (b : t ≡ better gas-bytes (bare 0 0) (costOf g) (nodeFound xs at)) where
   told-is : t ≡ better gas-bytes (bare 0 0) (costOf g) (find (whole (x .state)) (nodesOf xs n))
   told-is = b ∙ ap (better gas-bytes (bare 0 0) (costOf g)) (S .found)
 
-  pub admitted : (ys hs : List ℕ) (r : ℕ) (v : Row) → t ≡ true → nodeOfRow v ≡ nodeFor p x g → Stored xs n (nodeOfRow v) ys hs r → Admitted xs n (nodeFor p x g) ys hs (record { stored = true; nodes = r })
+  pub admitted : (ys hs : List ℕ) (r : ℕ) (v : Node) → t ≡ true → nodeIs v ≡ nodeFor p x g → Stored xs n (nodeIs v) ys hs r → Admitted xs n (nodeFor p x g) ys hs (record { stored = true; nodes = r })
   admitted ys hs r v y e W = record { told = sym y ∙ told-is; nodes-are = W .stored ∙ ap (λ (v : SearchNode). store v (nodesOf xs n)) e; kept = W .kept; most = W .most }
 
   pub not-admitted : (hs : List ℕ) → t ≡ false → Kept xs hs n → Admitted xs n (nodeFor p x g) xs hs (record { stored = false; nodes = n })
@@ -89,13 +88,13 @@ module _ (held : Held) (p : Origin) (x : Successor) (s : Sizes) (xs hs os : List
     unfolding offer
     to-be = rw (← f-is, ← tE, no, ← told)
 
-    node-is : IsCode (x .step) → nodeFor p x g ≡ nodeOf gas-bytes Q (whole (p .state)) (costOf (p .cost)) (succOf x)
-    node-is c = node-eq gE (code-parent (x .step) (c .0) (c .1) (p .state .hi) (p .state .lo))
+    node-is : nodeFor p x g ≡ nodeOf gas-bytes Q (whole (p .state)) (costOf (p .cost)) (succOf x)
+    node-is = node-eq gE refl
 
-    pub offer-stored : r .stored ≡ true → IsCode (x .step) → (ps : List ℕ) → Pushed os (s .list) (record { f = f; g = g; hi = x .state .hi; lo = x .state .lo }) ps
+    pub offer-stored : r .stored ≡ true → (ps : List ℕ) → Pushed os (s .list) (record { f = f; g = g; hi = x .state .hi; lo = x .state .lo }) ps
         → Now (offered held p x w) (s .nodes + 1) (s .list + 1) ys gs ps (record { nodes = r .nodes; list = s .list + 1 })
-    offer-stored y c ps P =
-        let n : nodesOf ys (r .nodes) ≡ store (nodeOf gas-bytes Q (whole (p .state)) (costOf (p .cost)) (succOf x)) (nodesOf xs (s .nodes)) = A .nodes-are ∙ rw y (ap (λ (m : SearchNode). store m (nodesOf xs (s .nodes))) (node-is c)) in
+    offer-stored y ps P =
+        let n : nodesOf ys (r .nodes) ≡ store (nodeOf gas-bytes Q (whole (p .state)) (costOf (p .cost)) (succOf x)) (nodesOf xs (s .nodes)) = A .nodes-are ∙ rw y (ap (λ (m : SearchNode). store m (nodesOf xs (s .nodes))) node-is) in
         let q : queueOf ps (s .list + 1) ≡ push gas-bytes entry (queueOf os (s .list)) = P .pushed ∙ ap (λ (m : Entry Cost). push gas-bytes m (queueOf os (s .list))) (entry-eq f-is gE) in
         let o : offered held p x w ≡ stored gas-bytes Q (whole (p .state)) (costOf (p .cost)) (succOf x) w = to-be ∙ rw y in
         record {

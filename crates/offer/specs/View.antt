@@ -6,16 +6,14 @@ use mathlib.Core.Option.{Option, none, some}
 use Prim.Native.Nat.{ℕ, _+_, _*_, _≤_}
 use lib.ListN.{length}
 use Rattle.costs.specs.declared.Cost.{Cost}
-use Rattle.costs.specs.declared.Step.{Step}
-use Rattle.costs.specs.declared.Decoded.the-variants.{Known}
-use Rattle.costs.specs.Step.{decoded}
+use Rattle.costs.specs.Step.{codeOf}
 use Rattle.costs.specs.Packed.{costOf}
 use Rattle.window.specs.State.{whole}
 use Rattle.algebra.specs.GasBytes.{gas-bytes}
 use Rattle.astar.specs.Search.{Succ, Work, Hand, find, store, better, offer}
 use Rattle.nodes.specs.declared.Found.{Found}
 use Rattle.nodes.specs.declared.Found.the-variants.{At, Nothing}
-use Rattle.lists.specs.View.{SearchNode, parentOf, nodesOf, queueOf, nodeFound, Kept, Piled}
+use Rattle.lists.specs.View.{SearchNode, nodesOf, queueOf, nodeFound, Kept, Piled}
 use Rattle.offer.specs.Rules.{estimated, bare}
 use Rattle.offer.specs.declared.Successor.{Successor}
 use Rattle.offer.specs.declared.Held.{Held}
@@ -27,12 +25,8 @@ use Rattle.offer.specs.declared.Admission.{Admission}
 abbrev pub sum : Cost → Cost → Cost
 sum a b = gas-bytes ._⊞_ a b
 
--- the number stands for a step
-abbrev pub IsCode : ℕ → Type 0
-IsCode c = (s : Step) × (decoded c ≡ Known s)
-
 abbrev pub succOf : Successor → Succ Cost ℕ
-succOf s = record { to = whole (s .state); price = costOf (s .price); by = s .step }
+succOf s = record { to = whole (s .state); price = costOf (s .price); by = codeOf (s .step) }
 
 -- the bound, whether a plan is in hand, and the g of the last goal recorded
 abbrev pub handOf : Held → Hand Cost
@@ -48,7 +42,7 @@ Inside xs r = (i : ℕ) → r ≡ At i → i * 8 + 8 ≤ length xs
 
 -- the node of the successor x of p at cost g
 abbrev pub nodeFor : Origin → Successor → ℕ → SearchNode
-nodeFor p x g = record { state = whole (x .state); cost = costOf g; parent = parentOf (p .state .hi) (p .state .lo) (x .step) }
+nodeFor p x g = record { state = whole (x .state); cost = costOf g; parent = some (whole (p .state), codeOf (x .step)) }
 
 -- A node v was offered to the node list: it is stored if its state is new or it is strictly cheaper.
 pub record Admitted (xs : List ℕ) (n : ℕ) (v : SearchNode) (ys hs : List ℕ) (r : Admission) : Type 0 where

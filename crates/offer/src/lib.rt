@@ -5,21 +5,23 @@ ghost use lib.ListN.{length};
 ghost use Rattle.costs.specs.Packed.{costOf};
 ghost use Rattle.algebra.specs.GasBytes.{«gas-bytes»};
 ghost use Rattle.astar.specs.Search.{cut as cuts, «record-goal» as recorded, better};
-ghost use Rattle.lists.specs.View.{nodeOf, nodeFound, Kept, Piled};
+ghost use Rattle.lists.specs.View.{nodeIs, nodeFound, Kept, Piled};
 ghost use Rattle.offer.specs.Rules.{bare};
-ghost use Rattle.offer.specs.View.{sum, IsCode, handOf, workOf, Inside, nodeFor, Admitted, Now, offered};
+ghost use Rattle.offer.specs.View.{sum, handOf, workOf, Inside, nodeFor, Admitted, Now, offered};
 use costs::Cost;
+use costs::Step;
 use heap::Entry;
+use lists::Node;
+use lists::Parent;
 use nodes::Found;
-use nodes::Row;
 use window::PackedState;
 
-// A successor: its state, the step's price, the state's estimate, and the step's code.
+// A successor: its state, the step's price, the state's estimate, and the step.
 pub struct Successor {
     pub state: PackedState,
     pub price: u64,
     pub est: u64,
-    pub step: u16,
+    pub step: Step,
 }
 
 // The plan in hand, and the last goal recorded.
@@ -95,21 +97,18 @@ fn cheaper(nodes: &[u64], at: Found, g: u64) -> bool
     g < nodes::cost(nodes, i)
 }
 
-// The row of the successor x of p at cost g.
-fn row_for(p: Origin, x: Successor, g: u64) -> Row
-    ensures { λ r. ⌜ nodeOf r ≡ nodeFor p x g ⌝ }
-    ensures { λ r. ⌜ r .hi ≡ x .state .hi ⌝ }
-    ensures { λ r. ⌜ r .lo ≡ x .state .lo ⌝ }
+// The node of the successor x of p at cost g.
+fn node_for(p: Origin, x: Successor, g: u64) -> Node
+    ensures { λ r. ⌜ nodeIs r ≡ nodeFor p x g ⌝ }
+    ensures { λ r. ⌜ r .state ≡ x .state ⌝ }
 {
     let from = p.state;
     let state = x.state;
-    Row {
-        hi: state.hi,
-        lo: state.lo,
+    let step = x.step;
+    Node {
+        state,
         cost: g,
-        phi: from.hi,
-        plo: from.lo,
-        step: x.step as u64,
+        parent: Parent::By(from, step),
     }
 }
 
@@ -129,8 +128,8 @@ pub fn admit(
     let state = x.state;
     let at = lists::find(nodes, heads, n, state);
     if cheaper(nodes, at, g) {
-        let row = row_for(p, x, g);
-        let more = lists::store_row(nodes, heads, n, at, row);
+        let node = node_for(p, x, g);
+        let more = lists::store(nodes, heads, n, at, node);
         return Admission {
             stored: true,
             nodes: more,
@@ -156,7 +155,6 @@ pub fn offer(
     requires { ⌜ Piled (now list) (sizes .list) ⌝ }
     requires { ⌜ sizes .nodes * 8 + 8 ≤ length (now nodes) ⌝ }
     requires { ⌜ sizes .list * 4 + 4 ≤ length (now list) ⌝ }
-    requires { ⌜ IsCode (x .step) ⌝ }
     ensures { λ r. ⌜ Now (offered held p x (workOf (now (nodes .entry)) (sizes .nodes) (now (list .entry)) (sizes .list)))
         (sizes .nodes + 1) (sizes .list + 1) (now (nodes .exit)) (now (heads .exit)) (now (list .exit)) r ⌝ }
 {

@@ -1,22 +1,18 @@
 -- A step's code, the successor it leads to, and the offering of all of them.
 use mathlib.Core.Path.{_≡_, refl, sym, ap, ap₂, _∙_, subst}
-use mathlib.Core.Bool.{Bool, true, false}
 use mathlib.Core.List.{List, [], _∷_, _++_, map}
 use mathlib.Core.Option.{Option, none, some}
-use Prim.Native.Nat.{ℕ, zero, suc, _+_, _-_, _*_, _/_, _%_, _≤_, _<_}
+use Prim.Native.Nat.{ℕ, zero, suc, _+_, _-_, _*_, _≤_, _<_}
 use native.Mathlib.Numerals.{add-one}
 use native.Mathlib.Omega.{arith}
-use borrow.Author.Tests.{ne-eqb, eq-eqb}
-use lib.Dec.{eqb}
 use lib.ListN.{length, getD, take, drop}
 use lib.Seq.{take-suc}
-use Rattle.costs.specs.Choice.{_if_otherwise_}
 use Rattle.costs.specs.declared.Cost.{Cost}
 use Rattle.costs.specs.declared.Step.{Step}
 use Rattle.costs.specs.declared.Step.the-variants.{Pop, Dup, Swap, PushImm, LoadVal}
 use Rattle.costs.specs.declared.Decoded.{Decoded}
 use Rattle.costs.specs.declared.Decoded.the-variants.{Known, Unknown}
-use Rattle.costs.specs.Step.{codeOf, ofKind, decoded}
+use Rattle.costs.specs.Step.{codeOf, decoded}
 use Rattle.costs.specs.Laws.{OperandFits, decoded-code}
 use Rattle.costs.specs.Packed.{costOf}
 use Rattle.replay.specs.Machine.{after}
@@ -28,11 +24,10 @@ use Rattle.window.specs.Decode.{decode-pack}
 use Rattle.algebra.specs.GasBytes.{gas-bytes}
 use Rattle.astar.specs.Search.{Succ, Work, offer, offers, stepOf}
 use Rattle.astar.specs.Places.{offers-snoc}
-use Rattle.nodes.proofs.Lemmas.{dec-eq}
 use Rattle.successors.specs.Parts.{map-append}
 use Rattle.successors.specs.Successors.{Question, priceBy, depthOf}
 use Rattle.heuristic.specs.Heuristic.{heuristicOf}
-use Rattle.problem.specs.Problem.{edge, depthIn, depthOfCode, problemOf, est-window}
+use Rattle.problem.specs.Problem.{edge, depthOfCode, depth-of-code, problemOf, est-window}
 use Rattle.moves.specs.Moves.{Doable, Told, stateOf}
 use Rattle.moves.specs.Codes.{Coded}
 use Rattle.moves.specs.declared.Move.{Move}
@@ -40,7 +35,7 @@ use Rattle.lists.specs.View.{parentIs, Kept, Piled}
 use Rattle.lists.specs.declared.Parent.{Parent}
 use Rattle.lists.specs.declared.Parent.the-variants.{Start, By}
 use Rattle.offer.specs.Rules.{Rules, coded, estimated}
-use Rattle.offer.specs.View.{IsCode, succOf, handOf, workOf, Now, offered}
+use Rattle.offer.specs.View.{succOf, handOf, workOf, Now, offered}
 use Rattle.offer.specs.declared.Held.{Held}
 use Rattle.offer.specs.declared.Origin.{Origin}
 use Rattle.offer.specs.declared.Sizes.{Sizes}
@@ -52,38 +47,13 @@ use Rattle.search.specs.declared.Setup.{Setup}
 
 -- ---- the depth of the last Swap
 
-by-eq : {P : Type 0} (a b : ℕ) → (a ≡ b → P) → ((a ≡ b → ⊥) → P) → P
-by-eq a b f g = mathlib.Core.Logic.⊎-elim f g (dec-eq a b)
-
-depth-swap : (c : ℕ) → c / 256 ≡ 2 → depthIn (decoded c) ≡ c % 256
-unfolding decoded
-depth-swap c e =
-    let z : c ≡ 0 → ⊥ = omega arith in
-    let a : c / 256 ≡ 1 → ⊥ = omega arith in
-    rw (ne-eqb _ _ z, ne-eqb _ _ a, eq-eqb _ _ e)
-
-depth-other : (c : ℕ) → (c / 256 ≡ 2 → ⊥) → depthIn (decoded c) ≡ 0
-unfolding decoded
-depth-other c n =
-    by-eq c 0 (λ z. rw (eq-eqb _ _ z))
-    (λ z. by-eq (c / 256) 1 (λ a. rw (ne-eqb _ _ z, eq-eqb _ _ a))
-    (λ a. by-eq (c / 256) 3 (λ b. rw (ne-eqb _ _ z, ne-eqb _ _ a, ne-eqb _ _ n, eq-eqb _ _ b))
-    (λ b. by-eq (c / 256) 4 (λ d. rw (ne-eqb _ _ z, ne-eqb _ _ a, ne-eqb _ _ n, ne-eqb _ _ b, eq-eqb _ _ d))
-    (λ d. rw (ne-eqb _ _ z, ne-eqb _ _ a, ne-eqb _ _ n, ne-eqb _ _ b, ne-eqb _ _ d)))))
-
-depth-at : (p : Parent) (s : PackedState) (b : Step) (c : ℕ) → p ≡ By s b → c ≡ codeOf b → depthOfCode (stepOf (parentIs p)) ≡ depthIn (decoded c)
-unfolding stepOf
-depth-at p s b c e f = ap (λ (x : Parent). depthOfCode (stepOf (parentIs x))) e ∙ ap (λ (x : ℕ). depthIn (decoded x)) (sym f)
-
 pub depth-start : (p : Parent) → p ≡ Start → 0 ≡ depthOfCode (stepOf (parentIs p))
 unfolding stepOf
 depth-start p e = sym (ap (λ (x : Parent). depthOfCode (stepOf (parentIs x))) e)
 
-pub depth-is-swap : (p : Parent) (s : PackedState) (b : Step) (c r : ℕ) → p ≡ By s b → c ≡ codeOf b → c / 256 ≡ 2 → r ≡ c % 256 → r ≡ depthOfCode (stepOf (parentIs p))
-depth-is-swap p s b c r e f k q = q ∙ sym (depth-at p s b c e f ∙ depth-swap c k)
-
-pub depth-is-none : (p : Parent) (s : PackedState) (b : Step) (c : ℕ) → p ≡ By s b → c ≡ codeOf b → (c / 256 ≡ 2 → ⊥) → 0 ≡ depthOfCode (stepOf (parentIs p))
-depth-is-none p s b c e f k = sym (depth-at p s b c e f ∙ depth-other c k)
+pub depth-by : (p : Parent) (s : PackedState) (b t : Step) → p ≡ By s b → b ≡ t → OperandFits t → depthOf t ≡ depthOfCode (stepOf (parentIs p))
+unfolding stepOf
+depth-by p s b t e f o = sym (ap (λ (x : Parent). depthOfCode (stepOf (parentIs x))) (e ∙ ap (By s) f) ∙ depth-of-code t o)
 
 -- ---- following a code
 
@@ -105,9 +75,8 @@ unfolding edgeBy
 followed s t prices state code m C T =
     let k : decoded code ≡ Known (C .step) = code-known (length (keysOf state)) code (keys-length state) C in
     record {
-      succ = succ-eq (T .window) (T .price) (T .step) ∙ sym (ap (λ (d : Decoded). edge prices (keysOf state) (stepIn d)) k);
+      succ = succ-eq (T .window) (T .price) (ap codeOf (T .by)) ∙ sym (ap (λ (d : Decoded). edge prices (keysOf state) (stepIn d)) k);
       est = T .est ∙ sym (ap (problemOf (questionOf s t prices) [] .est) (T .window) ∙ est-window (questionOf s t prices) [] (after (C .step) (keysOf state)) (T .keys) (T .fits));
-      is-code = (C .step, ap decoded (T .step ∙ sym (C .is)) ∙ k);
     }
 
 -- ---- offering them all

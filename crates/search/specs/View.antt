@@ -19,7 +19,7 @@ use Rattle.successors.specs.Successors.{Question}
 use Rattle.problem.specs.Problem.{edge, problemOf}
 use Rattle.moves.specs.Codes.{Coded}
 use Rattle.offer.specs.Rules.{Rules}
-use Rattle.offer.specs.View.{IsCode, succOf, handOf}
+use Rattle.offer.specs.View.{succOf, handOf}
 use Rattle.heap.specs.declared.Entry.{Entry as Waiting}
 use Rattle.offer.specs.declared.Held.{Held}
 use Rattle.offer.specs.declared.Origin.{Origin}
@@ -45,7 +45,6 @@ allOffered q h p xs w = offers gas-bytes (problemOf q []) (handOf h) (whole (p .
 pub record Followed (q : Question) (w : List ℕ) (code : ℕ) (r : Successor) : Type 0 where
   pub succ : succOf r ≡ edgeBy (q .prices) w code
   pub est : costOf (r .est) ≡ problemOf q [] .est (whole (r .state))
-  pub is-code : IsCode (r .step)
 
 -- each of the first k codes is of a step that can be made on a window of n keys
 abbrev pub AllCoded : ℕ → List ℕ → ℕ → Type 0

@@ -17,6 +17,7 @@ ghost use Rattle.lists.specs.View.{parentIs, waits, Kept, Piled};
 ghost use Rattle.offer.specs.View.{workOf, Now};
 ghost use Rattle.search.specs.Table.{wantIn, goalIn, questionOf, Ready};
 ghost use Rattle.search.specs.View.{edgeBy, allOffered, Followed, AllCoded, IsWindow, Awaits, Estimated, originOf};
+use costs::Step;
 use heap::Entry;
 use lists::Node;
 use lists::Parent;
@@ -42,11 +43,13 @@ fn last_depth(parent: Parent) -> usize
     let Parent::By(_, step) = parent else {
         return 0;
     };
-    let code = costs::code(step);
-    if code / 256 == 2 {
-        return (code % 256) as usize;
+    match step {
+        Step::Pop => 0,
+        Step::Dup(_) => 0,
+        Step::Swap(d) => d as usize,
+        Step::PushImm(_) => 0,
+        Step::LoadVal(_) => 0,
     }
-    0
 }
 
 // The successor of a state by the step of a code, where h is the state's estimate and have the counts of its keys.
@@ -65,11 +68,12 @@ fn follow(
     ensures { λ r. ⌜ Followed (questionOf setup (now (table .entry)) (now (prices .entry))) (keysOf state) code r ⌝ }
 {
     let m = moves::follow(state, h, have, &table[64..128], setup.dup, prices, code);
+    let step = m.step;
     Successor {
         state: PackedState { hi: m.hi, lo: m.lo },
         price: m.price,
         est: m.est,
-        step: m.step,
+        step,
     }
 }
 

@@ -71,15 +71,23 @@ cast-by-push c = search needs
 add-by-push-2 : tie.Need-add-by-push-2
 add-by-push-2 c = search needs
 
+making-requires : tie.Need-making-requires
+making-requires c κs = search needs
+
 by-push-requires-2 : tie.Need-by-push-requires-2
-by-push-requires-2 c κs = let s = c .before .before .before .before .before .before in
+by-push-requires-2 c κs =
+    let at-if3 = c .before in
+    let s = at-if3 .before .before .before .before .before .before in
     let a = s .pre .0 in
-    let d = push-doable _ _ (keys-length (s .args .state)) (a .0) (a .1) (a .2) (c .before .before .if1 .left) (c .before .if2 .left) (c .if3 .left) in
+    let d = push-doable _ _ (keys-length (s .args .state)) (a .0) (a .1) (a .2) (at-if3 .before .before .if1 .left) (at-if3 .before .if2 .left) (at-if3 .if3 .left) in
     (d .0, d .1, omega (arith, d .0), s .pre .1)
 
 returns-4 : tie.Need-returns-4
-returns-4 c = λ t goal dupMax e d p. let s = c .before .before .before .before .before .before .before in
-    told-push _ _ _ _ _ _ _ t (keys-length (s .args .state)) e d (c .before .before .before .if1 .left) (c .before .before .if2 .left) (c .before .if3 .left) refl (c .by-push2 .ensures goal dupMax p)
+returns-4 c = λ t goal dupMax e d p.
+    let at-if3 = c .before .before in
+    let s = at-if3 .before .before .before .before .before .before in
+    told-push _ _ _ _ _ _ (keys-length (s .args .state)) t e d _ (at-if3 .before .before .if1 .left) (at-if3 .before .if2 .left) (at-if3 .if3 .left) refl
+    (rw (c .before .making .ensures) at (c .by-push2 .ensures goal dupMax p))
 
 pub follow-spec : {M : Type 1} → statement M
 follow-spec =
@@ -98,5 +106,6 @@ follow-spec =
     returns-3
     cast-by-push
     add-by-push-2
+    making-requires
     by-push-requires-2
     returns-4)

@@ -29,7 +29,7 @@ packed-requires-2 : tie.Need-packed-requires-2
 packed-requires-2 c κs = search needs
 
 returns : tie.Need-returns
-returns c = record { state-is = refl; price = cc (c .before .packed .ensures, c .before .before .before .price-at .ensures, c .before .before .price-at2 .ensures); est = c .packed2 .ensures; step = refl }
+returns c = record { state-is = refl; price = cc (c .before .packed .ensures, c .before .before .before .price-at .ensures, c .before .before .price-at2 .ensures); est = c .packed2 .ensures; by = refl }
 
 pub form-spec : {M : Type 1} → statement M
 form-spec =

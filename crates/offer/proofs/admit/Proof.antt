@@ -1,13 +1,13 @@
-use Rattle.offer.proofs.Offering.{all-inside, sought-row, admitted, not-admitted}
+use Rattle.offer.proofs.Offering.{all-inside, sought-node, admitted, not-admitted}
 use borrow.Author.Needs.{needs}
 use Rattle.offer.proofs.admit.Statement.{statement}
 use Rattle.offer.proofs.admit.Tie as tie
 use Rattle.offer.proofs.admit.Reads as reads
 use Rattle.offer.proofs.admit.Lts as lts
 use Rattle.lists.proofs.find.Reads as find-reads
-use Rattle.lists.proofs.store_row.Reads as store-row-reads
+use Rattle.lists.proofs.store.Reads as store-reads
 use Rattle.offer.proofs.cheaper.Reads as cheaper-reads
-use Rattle.offer.proofs.row_for.Reads as row-for-reads
+use Rattle.offer.proofs.node_for.Reads as node-for-reads
 
 find-requires : tie.Need-find-requires
 find-requires c κs = search needs
@@ -15,11 +15,11 @@ find-requires c κs = search needs
 cheaper-requires : tie.Need-cheaper-requires
 cheaper-requires c κs = search all-inside
 
-row-for-requires : tie.Need-row-for-requires
-row-for-requires c κs = search needs
+node-for-requires : tie.Need-node-for-requires
+node-for-requires c κs = search needs
 
-store-row-requires : tie.Need-store-row-requires
-store-row-requires c κs = (search needs, (search needs, search sought-row))
+store-requires : tie.Need-store-requires
+store-requires c κs = (search needs, (search needs, search sought-node))
 
 same-length : tie.Need-same-length
 same-length c = search needs
@@ -45,8 +45,8 @@ admit-spec =
     (tie.spec
     find-requires
     cheaper-requires
-    row-for-requires
-    store-row-requires
+    node-for-requires
+    store-requires
     same-length
     same-length-2
     returns

@@ -31,7 +31,7 @@ follow-requires : tie.Need-follow-requires Inv-loop μ-loop
 follow-requires c κs = (search all-coded, (search needs, search needs))
 
 offer-requires : tie.Need-offer-requires Inv-loop μ-loop
-offer-requires c κs = (search needs, (search needs, (search offer-nodes, (search offer-list, search needs))))
+offer-requires c κs = (search needs, (search needs, (search offer-nodes, search offer-list)))
 
 add-i : tie.Need-add-i Inv-loop μ-loop
 add-i c =
