@@ -22,5 +22,6 @@ pub mod Sorted
 pub mod Places
 pub mod Rows
 pub mod Branch
+pub mod Counted
 pub mod Examples
 pub mod Valid

@@ -206,7 +206,8 @@ module _ (K : CostAlgebra) where
           (cond (eqb (e .state) goal) (go (recorded (n .cost) s)) (visit s e n))
           (go s)
 
-      -- "An empty open list is ending 2." "The open entry least by f, then g, then the state as an integer is taken."
+      -- "An empty open list is ending 2." "The open entry least by f, then g, then the state as an integer is taken": the head of the list, which
+      -- is the least in every search of a run (Sorted `drawn-least`)
       unfoldable pub turnOn : Search C Step → List (Entry C) → Turn C Step
       turnOn s [] = stop drained
       turnOn s (e ∷ es) = drawn (without es s) e (find (e .state) (s .work .nodes))

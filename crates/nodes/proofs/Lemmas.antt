@@ -15,7 +15,7 @@ use lib.Dec.{eqb}
 use Rattle.nodes.specs.declared.Row.{Row}
 use Rattle.nodes.specs.declared.Found.{Found}
 use Rattle.nodes.specs.declared.Found.the-variants.{At, Nothing}
-use Rattle.nodes.specs.Nodes.{rowAt, stores, written, rows, both, isState, pick, lookup, bucketOf, bucketAt, Led, Leads, Chained, replaced, rowOf, Wrote}
+use Rattle.nodes.specs.Nodes.{rowAt, stores, written, rows, both, isState, pick, lookup, bucketOf, bucketAt, Led, Leads, Chained, Wrote}
 
 pub scaled-fits : (k w : ℕ) → k < 4294967296 → w ≤ 4294967295 → k * w < 2 ^ 64
 scaled-fits k w l h =
@@ -113,13 +113,6 @@ lookup-state xs hi lo i (suc n) e =
     (λ t. let q : i ≡ length (rows xs n) = cc in ap (λ (k : ℕ). isState (rowAt xs k) hi lo) (q ∙ length-rows xs n) ∙ t)
     (λ f. lookup-state xs hi lo i n (rw f at e))
 
-pub row-of : (xs : List ℕ) (i n : ℕ) → i < n → rowOf (rows xs n) i ≡ rowAt xs i
-unfolding rowOf rows
-row-of xs i zero l = absurd (omega arith)
-row-of xs i (suc n) l =
-    ⊎-elim (λ q. rw (eq-eqb (length (rows xs n)) i (length-rows xs n ∙ q)) (ap (rowAt xs) q))
-    (λ nq. rw (ne-eqb (length (rows xs n)) i (λ z. nq (sym (length-rows xs n) ∙ z))) (row-of xs i n (omega arith))) (dec-eq n i)
-
 -- a walk along the chain of (hi, lo)'s bucket has come to cur, past every node of that state that is not below lim
 pub record Walk (xs hs : List ℕ) (n hi lo lim cur : ℕ) : Type 0 where
   pub lim-le : lim ≤ n
@@ -184,12 +177,6 @@ stores-in xs at k (v ∷ vs) (suc i) l r =
 Agree : List ℕ → List ℕ → ℕ → Type 0
 Agree ys xs n = (j : ℕ) → j < n * 8 → getD ys j 0 ≡ getD xs j 0
 
-rows-same : (ys xs : List ℕ) (n : ℕ) → Agree ys xs n → rows ys n ≡ rows xs n
-unfolding rows Agree
-rows-same ys xs zero s = refl
-rows-same ys xs (suc n) s =
-    cc (s (n * 8) (omega arith), s (n * 8 + 1) (omega arith), s (n * 8 + 2) (omega arith), s (n * 8 + 3) (omega arith), s (n * 8 + 4) (omega arith), s (n * 8 + 5) (omega arith), rows-same ys xs n (λ j l. s j (omega arith)))
-
 bucket-same : (ys xs : List ℕ) (m n i : ℕ) → Agree ys xs n → i < n → bucketAt ys m i ≡ bucketAt xs m i
 unfolding Agree
 bucket-same ys xs m n i s l = rw (s (i * 8) (omega arith), s (i * 8 + 1) (omega arith))
@@ -198,9 +185,6 @@ leads-same : (ys xs : List ℕ) (m n lim b h : ℕ) → Agree ys xs n → lim �
 leads-same ys xs m n lim b h s le ld i l e =
     let d = ld i l (sym (bucket-same ys xs m n i s (omega arith)) ∙ e) in
     record { reach = d .reach; below = d .below; bucket = bucket-same ys xs m n h s (omega (arith, d .below)) ∙ d .bucket }
-
-cons-eq : {p q : Row} {l m : List Row} → p ≡ q → l ≡ m → p ∷ l ≡ q ∷ m
-cons-eq e f = cc
 
 -- ---- one more node
 
@@ -227,10 +211,6 @@ module _ (xs : List ℕ) (n : ℕ) (v : Row) (nx : ℕ) (room : n * 8 + 8 ≤ le
   old : Agree (written xs (n * 8) v nx) xs n
   unfolding Agree
   old j l = stores-below (set xs (n * 8) (v .hi)) (n * 8) 1 (after v nx) j (omega arith) ∙ store-other xs (n * 8) j (v .hi) (λ e. omega arith)
-
-  pub rows-more : rows (written xs (n * 8) v nx) (n + 1) ≡ v ∷ rows xs n
-  unfolding rows
-  rows-more = rw (add-one n) (cons-eq new-row (rows-same (written xs (n * 8) v nx) xs n old))
 
   module _ (hs : List ℕ) (b : ℕ) (ch : Chained xs hs n) (be : b ≡ bucketOf (v .hi) (v .lo) (length hs)) (ne : nx ≡ getD hs b 0) where
     ys : List ℕ
@@ -283,9 +263,6 @@ module _ (xs : List ℕ) (n : ℕ) (v : Row) (nx : ℕ) (room : n * 8 + 8 ≤ le
 
 -- what `insert` ensures, from what it does
 module _ (xs ys hs : List ℕ) (n b : ℕ) (v : Row) (room : n * 8 + 8 ≤ length xs) (e : ys ≡ written xs (n * 8) v (getD hs b 0)) where
-  pub inserted-rows : rows ys (n + 1) ≡ v ∷ rows xs n
-  inserted-rows = rw e (rows-more xs n v (getD hs b 0) room)
-
   pub inserted-chained : Chained xs hs n → b ≡ bucketOf (v .hi) (v .lo) (length hs) → Chained ys (set hs b n) (n + 1)
   inserted-chained ch be = rw e (chained-more xs n v (getD hs b 0) room hs b ch be refl)
 
@@ -308,25 +285,6 @@ chained-same xs ys hs n le bs ns ch = record {
         let d = ld i l (sym (bs i (omega arith)) ∙ e) in
         record { reach = d .reach; below = d .below; bucket = bs h (omega (arith, d .below)) ∙ d .bucket }
 
-rows-ext : (xs ys : List ℕ) (n : ℕ) → ((k : ℕ) → k < n → rowAt ys k ≡ rowAt xs k) → rows ys n ≡ rows xs n
-unfolding rows
-rows-ext xs ys zero s = refl
-rows-ext xs ys (suc n) s = cons-eq (s n (omega arith)) (rows-ext xs ys n (λ k l. s k (omega arith)))
-
-rows-replaced : (xs ys : List ℕ) (i : ℕ) (v : Row) → rowAt ys i ≡ v → ((k : ℕ) → (k ≡ i → ⊥) → rowAt ys k ≡ rowAt xs k)
-    → (n : ℕ) → i < n → rows ys n ≡ replaced (rows xs n) i v
-unfolding rows replaced
-rows-replaced xs ys i v e o zero l = absurd (omega arith)
-rows-replaced xs ys i v e o (suc n) l =
-    ⊎-elim
-    (λ q.
-    rw (eq-eqb (length (rows xs n)) i (length-rows xs n ∙ q))
-    (cons-eq (ap (rowAt ys) q ∙ e) (rows-ext xs ys n (λ k lk. o k (λ z. omega arith)))))
-    (λ nq.
-    rw (ne-eqb (length (rows xs n)) i (λ z. nq (sym (length-rows xs n) ∙ z)))
-    (cons-eq (o n nq) (rows-replaced xs ys i v e o n (omega arith))))
-    (dec-eq n i)
-
 module _ (xs : List ℕ) (n i : ℕ) (v : Row) (nx : ℕ) (room : n * 8 ≤ length xs) (l : i < n) where
   other-at : (j : ℕ) → (i * 8 ≤ j → j < i * 8 + 7 → ⊥) → getD (written xs (i * 8) v nx) j 0 ≡ getD xs j 0
   other-at j o =
@@ -342,9 +300,6 @@ module _ (xs : List ℕ) (n i : ℕ) (v : Row) (nx : ℕ) (room : n * 8 ≤ leng
 
   new-is : rowAt (written xs (i * 8) v nx) i ≡ v
   new-is = new-row xs i v nx (omega arith)
-
-  pub rows-updated : rows (written xs (i * 8) v nx) n ≡ replaced (rows xs n) i v
-  rows-updated = rows-replaced xs (written xs (i * 8) v nx) i v new-is row-at n l
 
   module _ (hs : List ℕ) (st : isState (rowAt xs i) (v .hi) (v .lo) ≡ true) (ne : nx ≡ getD xs (i * 8 + 6) 0) where
     abbrev bucketOfRow : Row → ℕ
@@ -363,9 +318,6 @@ module _ (xs : List ℕ) (n i : ℕ) (v : Row) (nx : ℕ) (room : n * 8 ≤ leng
 
 -- what `update` ensures, from what it does
 module _ (xs ys : List ℕ) (n i : ℕ) (v : Row) (room : n * 8 ≤ length xs) (l : i < n) (e : ys ≡ written xs (i * 8) v (getD xs (i * 8 + 6) 0)) where
-  pub updated-rows : rows ys n ≡ replaced (rows xs n) i v
-  updated-rows = rw e (rows-updated xs n i v (getD xs (i * 8 + 6) 0) room l)
-
   pub updated-chained : isState (rowAt xs i) (v .hi) (v .lo) ≡ true → (hs : List ℕ) → Chained xs hs n → Chained ys hs n
   updated-chained st hs ch = rw e (chained-updated xs n i v (getD xs (i * 8 + 6) 0) room l hs st refl ch)
 
@@ -377,23 +329,6 @@ chained-empty xs hs h = record {
   heads = λ b l i li e. absurd (omega arith);
   nexts = λ j l. absurd (omega arith);
 }
-
--- for a caller of `find` whose answer is `At i`
-module _ (xs : List ℕ) (n hi lo i : ℕ) (r : Found) (is : r ≡ At i) (e : r ≡ lookup (rows xs n) hi lo) where
-  pub found-lt : i < n
-  found-lt = lookup-lt xs hi lo i n (sym is ∙ e)
-
-  pub found-state : isState (rowAt xs i) hi lo ≡ true
-  found-state = lookup-state xs hi lo i n (sym is ∙ e)
-
-  pub found-row : rowOf (rows xs n) i ≡ rowAt xs i
-  found-row = row-of xs i n found-lt
-
-  pub found-room : (hs : List ℕ) → Chained xs hs n → i * 8 + 8 ≤ length xs
-  found-room hs ch = omega (arith, found-lt, ch .room)
-
-pub still-chained : (xs ys hs : List ℕ) (n : ℕ) → ((gs : List ℕ) → Chained xs gs n → Chained ys gs n) → Chained xs hs n → Chained ys hs n
-still-chained xs ys hs n f ch = f hs ch
 
 -- a row written, new or in place of another
 module _ (xs ys : List ℕ) (i : ℕ) (v : Row) (nx : ℕ) (e : ys ≡ written xs (i * 8) v nx) where

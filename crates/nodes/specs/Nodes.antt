@@ -53,24 +53,6 @@ unfoldable pub lookup : List Row → ℕ → ℕ → Found
 lookup [] hi lo = Nothing
 lookup (r ∷ rs) hi lo = pick (isState r hi lo) (At (length rs)) (lookup rs hi lo)
 
-abbrev pub pickRow : Bool → Row → Row → Row
-pickRow true a b = a
-pickRow false a b = b
-
--- the row at an index, counted from the oldest
-unfoldable pub rowOf : List Row → ℕ → Row
-rowOf [] i = record { hi = 0; lo = 0; cost = 0; phi = 0; plo = 0; step = 0 }
-rowOf (q ∷ rs) i = pickRow (eqb (length rs) i) q (rowOf rs i)
-
-abbrev pub pickRows : Bool → List Row → List Row → List Row
-pickRows true a b = a
-pickRows false a b = b
-
--- the rows with another row at an index, counted from the oldest
-unfoldable pub replaced : List Row → ℕ → Row → List Row
-replaced [] i r = []
-replaced (q ∷ rs) i r = pickRows (eqb (length rs) i) (r ∷ rs) (q ∷ replaced rs i r)
-
 mixed : ℕ → ℕ
 mixed h = bitXor h (h / 2 ^ 32)
 

@@ -4,4 +4,5 @@ pub mod Accepted
 pub mod Steady
 pub mod Sound
 pub mod Marks
+pub mod Called
 pub mod Cases

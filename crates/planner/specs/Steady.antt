@@ -78,10 +78,10 @@ steady-answers a A A′ l more ok =
 -- ---- as fields
 
 -- the fields of an answer, and its step list
-abbrev fields : Answered Cost ℕ → Answer
+abbrev pub fields : Answered Cost ℕ → Answer
 fields r = fieldsOf (r .plan) (r .ending) (r .expansions)
 
-no-plan : (o : Option (Found Cost ℕ)) (e x : ℕ) → fieldsOf o e x .found ≡ 1 → (p : Found Cost ℕ) × (o ≡ some p)
+pub no-plan : (o : Option (Found Cost ℕ)) (e x : ℕ) → fieldsOf o e x .found ≡ 1 → (p : Found Cost ℕ) × (o ≡ some p)
 no-plan none e x h = absurd (omega arith)
 no-plan (some p) e x h = (p, refl)
 
@@ -89,16 +89,15 @@ ended : (o : Option (Found Cost ℕ)) (e x : ℕ) → fieldsOf o e x .ending ≡
 ended none e x = refl
 ended (some p) e x = refl
 
-le-more : (c d : Cost) → T (gas-bytes .le c d) → noMore c d ≡ true
+pub le-more : (c d : Cost) → T (gas-bytes .le c d) → noMore c d ≡ true
 le-more c d h = sym (le-is c d) ∙ T-true (gas-bytes .le c d) h
 
 -- the first step_count entries of the step list are the plan, whatever was there
-plan-of : Option (Found Cost ℕ) → List ℕ
+abbrev pub plan-of : Option (Found Cost ℕ) → List ℕ
 plan-of none = []
 plan-of (some p) = p .steps
 
-taken : (o : Option (Found Cost ℕ)) (e x : ℕ) (xs : List ℕ) → take (fieldsOf o e x .«step_count») (stepsWith o xs) ≡ plan-of o
-unfolding plan-of
+pub taken : (o : Option (Found Cost ℕ)) (e x : ℕ) (xs : List ℕ) → take (fieldsOf o e x .«step_count») (stepsWith o xs) ≡ plan-of o
 taken none e x xs = refl
 taken (some p) e x xs = take-at (p .steps) (drop (length (p .steps)) xs) (length (p .steps)) refl
 
