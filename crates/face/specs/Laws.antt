@@ -218,7 +218,7 @@ took-none s n h =
       queue = λ some. absurd (clash (sym h ∙ some));
     }
 
--- ---- the head of the queue after a push
+-- ---- the answer and the queue's head
 
 held-of : (n l : ℕ) → 0 < n → n ≤ l → (ltb 0 n && leb n l) ≡ true
 held-of n l h k = rw (lt-ltb 0 n h, le-leb n l k)
@@ -227,10 +227,3 @@ pub head-drawn : (s t : List Entry) (n : ℕ) (r : Least) → 0 < n → n ≤ le
 head-drawn s t n r h k is =
     let full : held s n ≡ true = held-of n (length s) h k in
     ap drawn (is .answer) ∙ ap (λ (b : Bool). drawn (cond b (Is (leastOf s n)) Empty)) full ∙ sym (ap foremost (is .queue full))
-
-pub offered : (s t u : List Entry) (n : ℕ) (e : Entry) (b : Bool) (r : Least) → n < length s → Pushed s t n e b → Taken t u (n + 1) r → drawn r ≡ foremost (push gas-bytes (entryOf e) (queueIn s n))
-offered s t u n e b r h p q =
-    let room : free s n ≡ true = lt-ltb n (length s) h in
-    let is : t ≡ set s n e = p .list ∙ ap (λ (z : Bool). cond z (set s n e) s) room in
-    let long : length t ≡ length s = ap length is ∙ length-set s n e in
-    head-drawn t u (n + 1) r (omega arith) (omega arith) q ∙ ap foremost (p .queue room)

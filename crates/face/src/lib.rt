@@ -4,13 +4,10 @@ ghost use mathlib.Core.Path.{_≡_};
 ghost use Prim.Native.Nat.{_<_, _+_, _≤_};
 ghost use lib.ListN.{length};
 ghost use lib.Dec.{ltb, leb};
-ghost use mathlib.Core.Bool.{cond, _&&_};
-ghost use mathlib.Core.Option.{none};
+ghost use mathlib.Core.Bool.{_&&_};
 ghost use Rattle.window.specs.State.{whole};
 ghost use Rattle.astar.specs.Cost.{lex};
-ghost use Rattle.face.specs.Open.{noLater, lesserAt, stored, entryOf, queueIn, free, first, left, drawn, foremost, Pushed, Taken, Removed};
-ghost use Rattle.algebra.specs.GasBytes.{gas-bytes};
-ghost use Rattle.astar.specs.Search.{push as inserted};
+ghost use Rattle.face.specs.Open.{noLater, lesserAt, stored, free, first, left, Pushed, Taken, Removed};
 use costs::Cost;
 use window::PackedState;
 
@@ -139,14 +136,4 @@ pub fn rest_in(open: [Entry; 64], len: usize) -> [Entry; 64]
     let mut all = open;
     take_least(&mut all, len);
     all
-}
-
-// The least once an entry is pushed; none where there is no room for it.
-pub fn offer(open: [Entry; 64], len: usize, e: Entry) -> Least
-    ensures { λ r. ⌜ drawn r ≡ cond (ltb len 64) (foremost (inserted gas-bytes (entryOf e) (queueIn «open» len))) none ⌝ }
-{
-    if 64 <= len {
-        return Least::Empty;
-    }
-    least_in(push_in(open, len, e), len + 1)
 }

@@ -42,7 +42,7 @@ accepted-bounded : (a : Asked) (l : Lent) → Accepted a l → Bounded a (fields
 unfolding answered
 accepted-bounded a l ok =
     let t : Told gas-bytes (problemOf (questionOf a) (a .start)) (a .allowance) (listed (a .prices)) 50 30000
-      (bounded (questionOf a) (a .start) (bounds a l ok) (ok .prices)) (before a .bound) (planHeld (before a)) (answered a) =
+    (bounded (questionOf a) (a .start) (bounds a l ok) (ok .prices)) (before a .bound) (planHeld (before a)) (answered a) =
     planned-told gas-bytes (problemOf (questionOf a) (a .start)) (a .allowance) (listed (a .prices)) 50 30000 (bounded (questionOf a) (a .start) (bounds a l ok) (ok .prices)) (before a .bound) (planHeld (before a)) in
     fields-bounded a (answered a .plan) (answered a .ending) (answered a .expansions) (t .few-expansions) (t .ending-most)
 

@@ -174,15 +174,15 @@ impl PackedState {
         requires { ⌜ Window self × (length (keysOf self) ≤ length (now out)) ⌝ }
         ensures { λ n. ⌜ (n ≡ length (keysOf self)) × (now (out .exit) ≡ keysOf self ++ drop (length (keysOf self)) (now (out .entry))) ⌝ }
     {
-        let n = self.len();
+        let empty = PackedState { hi: 0, lo: 1 };
         let mut s = self;
         let mut i = 0;
-        while i < n {
+        while !s.same(empty) {
             out[i] = s.get(0);
             s = s.pop();
             i += 1;
         }
-        n
+        i
     }
 
     // Whether the two are the same state.

@@ -1,67 +1,65 @@
 -- The first i keys are written, the others are held: the loop's invariant.
 use borrow.Author.Needs.{needs}
+use borrow.Author.Tests.{not-true, not-false}
 use Prim.Native.Nat.{_-_, _≤_, _<_}
 use mathlib.Core.Path.{_≡_, _∙_}
 use native.Mathlib.Omega.{arith}
 use lib.ListN.{length, drop}
 use Rattle.window.specs.Keys.{keysOf}
-use Rattle.window.specs.Written.{Writing, writing-first, some-left, some-held, writing-next, writing-last}
+use Rattle.window.specs.Written.{Writing, writing-first, key-left, none-left, some-left, some-held, writing-next, writing-last}
 use Rattle.window.proofs.PackedState.write.Statement.{statement}
 use Rattle.window.proofs.PackedState.write.Tie as tie
 
 abbrev Inv-loop : tie.InvT-loop
-Inv-loop out₀ n s₀ i₀ out s i = Writing (keysOf s₀) out₀ n out s i
+Inv-loop out₀ empty s₀ i₀ out s i = Writing (keysOf s₀) out₀ out s i
 
 abbrev μ-loop : tie.MeasureT-loop
-μ-loop out₀ n s₀ i₀ out s i = n - i
-
--- the length is the window's
-count : (c : tie.After-len Inv-loop μ-loop) → c .len .result ≡ length (keysOf (c .before .before .args .self))
-count c = c .len .ensures _ (c .before .before .pre .0)
-
-len-requires : tie.Need-len-requires Inv-loop μ-loop
-len-requires c κs = search needs
+μ-loop out₀ empty s₀ i₀ out s i = length (keysOf s₀) - i
 
 loop-holds : tie.Need-loop-holds Inv-loop μ-loop
-loop-holds c = writing-first _ _ _ (count c) _ (c .before .before .pre .0)
+loop-holds c = writing-first _ _ _ (c .before .pre .1) (c .before .pre .0)
+
+same-requires : tie.Need-same-requires Inv-loop μ-loop
+same-requires c κs = search needs
+
+-- a window that is not the empty one has a key to write
+left : (c : tie.Then1 Inv-loop μ-loop) → c .before .before .loop .i < length (keysOf (c .before .before .before .before .args .self))
+left c = key-left _ _ _ _ _ (c .before .before .loop .inv) _ (c .before .same .ensures) (not-true _ (c .if1 .taken))
 
 get-requires : tie.Need-get-requires Inv-loop μ-loop
 get-requires c κs =
-    let l = c .before .loop in
-    (_, l .inv .left, some-left _ _ _ (count (c .before .before)) _ _ _ (l .inv) (c .loop-test .taken))
+    let l = c .before .before .loop in
+    (_, l .inv .left, some-left _ _ _ _ _ (l .inv) (left c))
 
 slice-write-out : tie.Need-slice-write-out Inv-loop μ-loop
 slice-write-out c =
-    let l = c .before .before in
-    omega (arith, l .loop .inv .len, count (l .before), l .before .before .before .pre .1, c .before .loop-test .taken)
+    let l = c .before .before .before .loop in
+    omega (arith, left (c .before), l .inv .len, l .inv .room)
 
 pop-requires : tie.Need-pop-requires Inv-loop μ-loop
-pop-requires c κs =
-    let l = c .before .before in
-    (_, (_, some-held _ _ _ (count (l .before)) _ _ _ (l .loop .inv) (c .before .loop-test .taken)))
+pop-requires c κs = (_, (_, some-held _ _ _ _ _ (c .before .before .before .loop .inv) (left (c .before))))
 
 add-i : tie.Need-add-i Inv-loop μ-loop
 add-i c = search needs
 
 loop-less : tie.Need-loop-less Inv-loop μ-loop
-loop-less c = search needs
+loop-less c = omega (arith, left (c .before .before))
 
 loop-again : tie.Need-loop-again Inv-loop μ-loop
 loop-again c =
-    let t = c .before .before in
-    let l = t .before in
-    let s = l .before .before .before in
-    let e = count (l .before) in
-    let m = t .loop-test .taken in
-    let v = l .loop .inv in
-    writing-next _ _ _ e _ _ _ v _ _ m (omega (arith, e, s .pre .1)) (c .before .get .ensures _ (v .left) (some-left _ _ _ e _ _ _ v m))
-    (c .pop .ensures _ _ (some-held _ _ _ e _ _ _ v m))
+    let g = c .before in
+    let v = g .before .before .before .loop .inv in
+    let l = left (g .before) in
+    writing-next _ _ _ _ _ v _ _ l (g .get .ensures _ (v .left) (some-left _ _ _ _ _ v l)) (c .pop .ensures _ _ (some-held _ _ _ _ _ v l))
 
 same-length : tie.Need-same-length Inv-loop μ-loop
 same-length c = search needs
 
 returns : tie.Need-returns Inv-loop μ-loop
-returns c = let e = count (c .before .before) in (e, writing-last _ _ _ e _ _ _ (c .before .loop .inv) (c .loop-test .left))
+returns c =
+    let v = c .before .before .loop .inv in
+    let e = none-left _ _ _ _ _ v _ (c .before .same .ensures) (not-false _ (c .if1 .left)) in
+    (e, writing-last _ _ _ _ _ v e)
 
 pub write-spec : {M : Type 1} → statement M
 write-spec =
@@ -69,8 +67,8 @@ write-spec =
     (tie.spec
     Inv-loop
     μ-loop
-    len-requires
     loop-holds
+    same-requires
     get-requires
     slice-write-out
     pop-requires
