@@ -241,9 +241,10 @@ fn search_plan(r: Outcome) -> Answer
 {
     let cost = r.cost;
     let ceiling = r.ceiling;
+    let found = 1;
     Answer {
         refusal: 0,
-        found: 1,
+        found,
         step_count: r.steps,
         plan_gas: cost.gas,
         plan_bytes: cost.bytes,
