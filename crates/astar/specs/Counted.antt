@@ -60,7 +60,7 @@ module _ (K : CostAlgebra) (Q : Problem K) (A : Allowance) where
   -- ---- of the answer
 
   module _ (priced : Q .Step → K .C) (few dear : ℕ) (B : Bounded K Q few dear) (bound : K .C) (held : Option (Found (K .C) (Q .Step))) where
-    -- "Expansions returned in the answer" are "bounded by max_expansions", and the ending is 0 to 5
+    -- no more expansions than allowed, and an ending of 0 to 5
     pub record Told (r : Answer (K .C) (Q .Step)) : Type 0 where
       pub few-expansions : r .expansions ≤ A .expansions
       pub ending-most : r .ending ≤ 5

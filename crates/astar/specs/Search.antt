@@ -1,5 +1,5 @@
--- The bounded A* search of document 01, "One turn of the search", over any costs and any problem. Each definition stands under the
--- sentence of document 01 that it states.
+-- The bounded A* search over any costs and any problem. All of it states document 01, section "One turn of the search"; a name in quotes is the
+-- beginning of the sentence there.
 use mathlib.Core.Path.{_≡_}
 use mathlib.Core.Bool.{Bool, true, false, cond, not, _&&_, _||_}
 use mathlib.Core.Option.{Option, none, some, bind}
@@ -109,7 +109,7 @@ module _ (K : CostAlgebra) where
   infixl 60 _⊞_
   -- ---- open entries
 
-  -- "least by f, then g, then the state as an integer"
+  -- a comes no later than b: its f decides, among equal f its g, among equal g its state ("The open entry")
   unfoldable pub before : Entry C → Entry C → Bool
   before a b = lex (le (a .f) (b .f)) (le (b .f) (a .f)) (lex (le (a .g) (b .g)) (le (b .g) (a .g)) (leb (a .state) (b .state)))
 
@@ -119,11 +119,11 @@ module _ (K : CostAlgebra) where
 
   -- ---- the plan in hand
 
-  -- "f at or above the bound with a plan in hand, above it without"
+  -- an f that cannot improve on the bound: with a plan in hand it must stay below, without one it may reach the bound ("For any other state")
   unfoldable pub cut : Hand C → C → Bool
   cut H f = cond (H .have) (le (H .bound) f) (lt K (H .bound) f)
 
-  -- "A goal is recorded if no plan is in hand or its g is below the bound; from then on it is the plan in hand and its g the bound."
+  -- a goal that was drawn at g becomes the plan in hand, and g the bound, unless a plan in hand is as cheap ("A goal is recorded")
   unfoldable pub record-goal : C → Hand C → Hand C
   record-goal g H = cond (not (H .have) || lt K g (H .bound)) (record { bound = g; have = true; last = some g }) H
 
@@ -132,12 +132,12 @@ module _ (K : CostAlgebra) where
 
     -- ---- expanding
 
-    -- "new or strictly cheaper"
+    -- the state has no node yet, or a dearer one ("A successor is stored")
     unfoldable pub better : C → Option (Node C Step) → Bool
     better g none = true
     better g (some n) = lt K g (n .cost)
 
-    -- "a stored successor's [g] is the g of the state expanded plus the step's price": the node and the open entry of a successor x of p,
+    -- a successor costs what its parent costs and its step ("a stored successor's"): the node and the open entry of a successor x of p,
     -- where p's g is g
     abbrev pub nodeOf : ℕ → C → Succ C Step → Node C Step
     nodeOf p g x = record { state = x .to; cost = g ⊞ x .price; parent = some (p, x .by) }
@@ -148,7 +148,7 @@ module _ (K : CostAlgebra) where
     abbrev pub stored : ℕ → C → Succ C Step → Work C Step → Work C Step
     stored p g x w = record { nodes = store (nodeOf p g x) (w .nodes); queue = push (entryOf g x) (w .queue) }
 
-    -- "A successor is stored if the same cut passes it and it is new or strictly cheaper."
+    -- a successor is stored unless its f is cut off or its state has a node as cheap ("A successor is stored")
     unfoldable pub offer : Hand C → ℕ → C → Succ C Step → Work C Step → Work C Step
     offer H p g x w = cond (cut H (entryOf g x .f)) w (cond (better (entryOf g x .g) (find (x .to) (w .nodes))) (stored p g x w) w)
 
@@ -167,7 +167,7 @@ module _ (K : CostAlgebra) where
     abbrev pub recorded : C → Search C Step → Search C Step
     recorded g s = record { work = s .work; hand = record-goal g (s .hand); count = s .count }
 
-    -- "Then the state is expanded and counted": s with the state v of the node n expanded
+    -- s with the state v of the node n expanded, and counted ("Then the state")
     abbrev pub expanded : ℕ → Node C Step → Search C Step → Search C Step
     expanded v n s =
         record { work = offers (s .hand) v (n .cost) (after v (stepOf (n .parent))) (s .work); hand = s .hand; count = suc (s .count) }
@@ -177,22 +177,22 @@ module _ (K : CostAlgebra) where
       abbrev pub allowed : Hand C → ℕ
       allowed H = cond (H .have) (A .states-with) (A .states-without)
 
-      -- "nodes, or open entries without the one drawn, over the state allowance"
+      -- more nodes, or more open entries that still wait, than the allowance has states ("nodes, or open entries")
       unfoldable pub over : Search C Step → Bool
       over s = ltb (allowed (s .hand)) (length (s .work .nodes)) || ltb (allowed (s .hand)) (length (s .work .queue))
 
-      -- "For any other state": s is without the entry drawn
+      -- a state that is drawn and is not the goal ("For any other state"); s is without the entry drawn
       unfoldable pub visit : Search C Step → Entry C → Node C Step → Turn C Step
       visit s e n =
           cond
-          -- "f at or above the bound with a plan in hand, above it without, ends the run (3)"
+          -- ending 3
           (cut (s .hand) (e .f))
           (stop cutOff)
           (cond
-          -- "nodes, or open entries without the one drawn, over the state allowance end it (4)"
+          -- ending 4
           (over s)
           (stop states)
-          -- "`max_expansions` already expanded ends it (5). Then the state is expanded and counted."
+          -- ending 5, or the state is expanded
           (cond (leb (A .expansions) (s .count)) (stop expansions) (go (expanded (e .state) n s))))
 
       -- an entry drawn, and its state's node; s is without that entry
@@ -200,14 +200,14 @@ module _ (K : CostAlgebra) where
       drawn s e none = go s
       drawn s e (some n) =
           cond
-          -- "An entry whose g is no longer its node's is skipped."
+          -- an entry whose state has become cheaper since is passed over ("An entry whose g")
           (same K (e .g) (n .cost))
-          -- "A drawn goal is never expanded."
+          -- the goal is recorded and not expanded ("A drawn goal")
           (cond (eqb (e .state) goal) (go (recorded (n .cost) s)) (visit s e n))
           (go s)
 
-      -- "An empty open list is ending 2." "The open entry least by f, then g, then the state as an integer is taken": the head of the list, which
-      -- is the least in every search of a run (Sorted `drawn-least`)
+      -- ending 2 where nothing waits ("An empty open list"); otherwise the head of the list is drawn ("The open entry"), which is the least in every
+      -- search of a run (Sorted `drawn-least`)
       unfoldable pub turnOn : Search C Step → List (Entry C) → Turn C Step
       turnOn s [] = stop drained
       turnOn s (e ∷ es) = drawn (without es s) e (find (e .state) (s .work .nodes))
@@ -221,7 +221,7 @@ module _ (K : CostAlgebra) where
       run zero s = record { final = s; ending = none }
       run (suc k) s = proceed s (turn s) (λ t. run k t)
 
-    -- "The start's g is zero": the first search, with the bound and the plan that the builders gave
+    -- the first search: the start at no cost ("The start's g"), with the bound and the plan that the builders gave
     unfoldable pub begin : C → Bool → Search C Step
     begin bound have =
         record {

@@ -23,7 +23,7 @@ fresh start = record { window = start; steps = [] }
 unfoldable pub does : Step → Draft → Draft
 does s p = record { window = after s (p .window); steps = p .steps ++ (codeOf s ∷ []) }
 
--- "star-swap finishes" (document 01, "A bound before the search")
+-- star-swap's steps behind those so far (document 01, "A bound before the search")
 unfoldable pub routed : List ℕ → Draft → Draft
 routed goal p = record { window = run (p .window) (starSwaps (p .window) goal); steps = p .steps ++ codes (starSwaps (p .window) goal) }
 

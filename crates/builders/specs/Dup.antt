@@ -27,11 +27,11 @@ andThen (some p) f = f p
 abbrev pub surplus : List ℕ → List ℕ → ℕ → Bool
 surplus goal w k = ltb (countOf k goal) (countOf k w)
 
--- "first surplus key from the top": its place, or the length
+-- the place of the highest key of which there are too many, or the length
 abbrev pub surplusAt : List ℕ → List ℕ → ℕ
 surplusAt goal w = firstAt (surplus goal w) w
 
--- "swapped up and popped": the key at a place
+-- the key at a place goes: to the top by a Swap, and off by a Pop
 unfoldable pub dropAt : ℕ → Draft → Draft
 dropAt d p = does Pop p if eqb d 0 otherwise does Pop (does (Swap d) p)
 
@@ -47,11 +47,11 @@ trimmed (suc n) swapMax goal p =
     if ltb (surplusAt goal (p .window)) (length (p .window)) otherwise
     some p
 
--- "materialized": a key that the window has not is pushed or loaded by its kind
+-- a key that the window has not is pushed or loaded by its kind
 unfoldable pub made : List ℕ → ℕ → Step
 made kinds k = PushImm k if immediate kinds k otherwise LoadVal k
 
--- "the highest place" of a key, or the length
+-- the place of a key that is nearest the top, or the length
 abbrev pub placeOf : ℕ → List ℕ → ℕ
 placeOf k w = firstAt (eqb k) w
 

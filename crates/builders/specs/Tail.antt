@@ -1,4 +1,4 @@
--- Delete-tail (document 01, "A bound before the search"): each buried key costs one Swap and one Pop, star-swap finishes.
+-- Delete-tail (document 01, "A bound before the search"): kept keys are swapped under the keys to delete, which are popped; star-swap puts the kept keys in order.
 use Prim.Native.Nat.{ℕ, zero, suc, _-_, min}
 use mathlib.Core.Bool.{Bool, true, false, not, _&&_, _||_}
 use mathlib.Core.List.{List, [], _∷_}
@@ -57,6 +57,6 @@ tailRefusal swapMax start goal places =
 unfoldable pub deleted : ℕ → List ℕ → List ℕ → List ℕ → Written × List ℕ
 deleted swapMax start goal old = written (tailRefusal swapMax start goal (length old)) (deleteTail start goal) old
 
--- delete-tail as a builder: the plan, or none (document 01, "A builder that has none is passed over")
+-- delete-tail as a builder: the plan, or none (document 01, "A builder that has none")
 unfoldable pub tailPlan : ℕ → List ℕ → List ℕ → Option (List ℕ)
 tailPlan swapMax start goal = none if notTail swapMax start goal otherwise some (deleteTail start goal)

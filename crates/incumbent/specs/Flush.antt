@@ -1,5 +1,5 @@
--- The flush cost (document 01, "A bound before the search"): the pop price times the start's length less the common suffix, plus the prices of
--- the goal keys above that suffix.
+-- The flush cost (document 01, "A bound before the search"): what it costs to pop the start down to the keys that it shares with the goal at the
+-- bottom, and to make the goal's other keys.
 use Prim.Native.Nat.{ℕ, zero, suc, _-_, min}
 use mathlib.Core.List.{List, [], _∷_}
 use lib.ListN.{length, getD, take}

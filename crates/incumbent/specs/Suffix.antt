@@ -113,7 +113,7 @@ with-pops prices (suc n) sum g h =
     let y : min (min (sum .bytes + p .bytes) 4294967295 + n * p .bytes) 4294967295 ≡ min (sum .bytes + suc n * p .bytes) 4294967295 = omega (arith, suc-mul n (p .bytes)) in
     with-pops prices n (plus sum p) (omega arith) (omega arith) ∙ ap₂ cost x y
 
--- "pop price times"
+-- so many pops cost the price of one that many times
 pub pops-product : (prices : List ℕ) (n : ℕ) → popsCost prices n ≡ times n (priceOf prices (Known Pop))
 pops-product prices n =
     let p : Cost = priceOf prices (Known Pop) in
@@ -121,7 +121,7 @@ pops-product prices n =
     let y : min (0 + n * p .bytes) 4294967295 ≡ min (n * p .bytes) 4294967295 = omega arith in
     with-pops prices n none (omega arith) (omega arith) ∙ ap₂ cost x y
 
--- "The flush cost is pop price times (start length less common suffix) plus the prices of the goal keys above that suffix."
+-- the flush cost, with its pops as a product (document 01, "The flush cost is")
 pub flush-product : (prices start goal : List ℕ) →
     flushCost prices start goal ≡ withKeys prices (times (length start - commonSuffix start goal) (priceOf prices (Known Pop))) (take (length goal - commonSuffix start goal) goal)
 unfolding flushCost

@@ -29,7 +29,7 @@ use Rattle.planner.specs.declared.Answer.{Answer}
 
 -- ---- expansions and ending, of every answer
 
--- "Expansions returned in the answer equal the count in the search definition, bounded by max_expansions"; an ending is 0 to 5
+-- no more expansions than allowed (document 01, "Then the state is expanded"), and an ending of 0 to 5
 pub record Bounded (a : Asked) (r : Answer) : Type 0 where
   pub few-expansions : r .expansions ≤ a .allowance .expansions
   pub ending-most : r .ending ≤ 5

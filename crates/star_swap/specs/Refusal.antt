@@ -9,12 +9,12 @@ use Rattle.costs.specs.Table.{anyOver, countOf}
 use Rattle.star_swap.specs.Star.{starSwaps, codes}
 use Rattle.star_swap.specs.declared.Written.{Written}
 
--- whether two windows hold each key below a number equally often (refusal 9, "unequal .. key counts")
+-- whether two windows hold each key below a number equally often (refusal 9)
 abbrev pub sameCounts : ℕ → List ℕ → List ℕ → Bool
 sameCounts zero a b = true
 sameCounts (suc k) a b = eqb (countOf k a) (countOf k b) && sameCounts k a b
 
--- whether two windows hold the same keys at the same places (refusal 9, "misplaced")
+-- whether two windows hold the same keys at the same places (refusal 9)
 abbrev pub sameKeys : List ℕ → List ℕ → Bool
 sameKeys [] [] = true
 sameKeys [] (y ∷ b) = false

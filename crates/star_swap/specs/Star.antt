@@ -1,5 +1,6 @@
--- Star-swap (document 01, "A bound before the search"): arcs from goal key to present key over misplaced slots, one trail from the top's key,
--- then each remaining circuit in rising key order with its last slot as entry and exit. A slot is a position of at least 1.
+-- Star-swap (document 01, "A bound before the search"): a misplaced slot is an arc from the key that the goal has there to the key that stands
+-- there. A trail from the key on top walks what arcs it can; what is left are circuits, by rising key, each begun and ended at its last slot. A slot
+-- is a position of at least 1.
 use mathlib.Core.Bool.{Bool, true, false}
 use mathlib.Core.List.{List, [], _∷_, _++_, map}
 use Prim.Native.Nat.{ℕ, zero, suc, _+_, _*_}

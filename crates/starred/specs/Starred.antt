@@ -76,29 +76,29 @@ abbrev atGoal : Answer
 atGoal = record { refusal = 0; found = 1; «step_count» = 0; «plan_gas» = 0; «plan_bytes» = 0; «ceiling_gas» = 0; «ceiling_bytes» = 0; origin = 0; ending = 0; expansions = 0 }
 
 pub record Starred : Type 0 where
-  -- "start 0 1, goal empty: pop, pop, 4/2, origin 2"
+  -- two keys to none: two Pops of dup-and-star
   pub two-pops : plannedFor (ask 16 17 21 (0 ∷ 1 ∷ []) []) desk lines ≡ (builders 2 4 2 2, 0 ∷ 0 ∷ replicate 126 9999)
-  -- "start 0, goal 0 0: dup 0, 3/1, origin 2"
+  -- one key to two of it: a Dup
   pub one-dup : plannedFor (ask 16 17 21 (0 ∷ []) (0 ∷ 0 ∷ [])) desk lines ≡ (builders 1 3 1 2, 256 ∷ replicate 127 9999)
-  -- "With dup_max 0: not found"
+  -- and no plan where nothing may be dupped
   pub no-dup : plannedFor (ask 0 17 21 (0 ∷ []) (0 ∷ 0 ∷ [])) desk lines ≡ (notFound, lines)
-  -- "start empty, goal 32: push 32, 2/1"
+  -- nothing to the zero: its push
   pub push-zero : plannedFor (ask 16 17 21 [] (32 ∷ [])) desk lines ≡ (builders 1 2 1 2, 800 ∷ replicate 127 9999)
-  -- "swap_max 0, both empty: ending 0"
+  -- nothing to nothing, without reach: no steps
   pub both-empty : plannedFor (ask 16 0 21 [] []) desk lines ≡ (atGoal, lines)
-  -- "Start 0 there: refusal 6"
+  -- a key where there is no reach: too long
   pub no-reach : plannedFor (ask 16 0 21 (0 ∷ []) []) desk lines ≡ (refused 6, lines)
-  -- "max_len 21 passes, 22 is 2"
+  -- a window of 22 keys is too tall
   pub too-tall : plannedFor (ask 16 17 22 [] []) desk lines ≡ (refused 2, lines)
-  -- "Star-swap 0 1 2 to 0 2 1: swap 1, 2, 1"
+  -- star-swap through a circuit
   pub swap-1-2-1 : starSwapped 17 (0 ∷ 1 ∷ 2 ∷ []) (0 ∷ 2 ∷ 1 ∷ []) lines ≡ (record { refusal = 0; count = 3 }, 513 ∷ 514 ∷ 513 ∷ replicate 125 9999)
-  -- "To 1 2 0: swap 2, 1"
+  -- star-swap along one trail
   pub swap-2-1 : starSwapped 17 (0 ∷ 1 ∷ 2 ∷ []) (1 ∷ 2 ∷ 0 ∷ []) lines ≡ (record { refusal = 0; count = 2 }, 514 ∷ 513 ∷ replicate 126 9999)
-  -- "Delete-tail 0 1 2 to 0 1: swap 2, pop, swap 1"
+  -- delete-tail of one key
   pub swap-pop-swap : deleted 17 (0 ∷ 1 ∷ 2 ∷ []) (0 ∷ 1 ∷ []) lines ≡ (record { refusal = 0; count = 3 }, 514 ∷ 0 ∷ 513 ∷ replicate 125 9999)
-  -- "Packing key 64: refusal 5"
+  -- a key too great for packing
   pub packing-64 : packing 6 21 (64 ∷ []) ≡ record { refusal = 5; lo = 0; hi = 0 }
-  -- "Replay of Pop on empty: 8, index 0"
+  -- a Pop that replay does not allow
   pub pop-on-empty : replayed (rules 16 17 21 kinds) [] (0 ∷ []) sheet ≡ (record { refusal = 8; index = 0; length = 0 }, sheet)
 
 pub starred : Starred

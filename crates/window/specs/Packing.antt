@@ -15,7 +15,7 @@ packRefusal w limit ids =
     6 if ltb limit (length ids) otherwise
     0
 
--- document 01, "packing returns the low and the high 64 bits"; beside a refusal both are zero
+-- the two halves of the packed window, both zero beside a refusal (document 01, "packing returns")
 unfoldable pub packing : (w limit : ℕ) → List ℕ → Packing
 packing w limit ids =
     record { refusal = 0; lo = pack w ids % 2 ^ 64; hi = pack w ids / 2 ^ 64 } if eqb (packRefusal w limit ids) 0 otherwise
