@@ -14,6 +14,9 @@ use Rattle.desk_answer.specs.Planning.{planning, planned-count, planned-
 use Rattle.desk_text.specs.Question.{Asked, questionOf, keyOf, limitsOf, over, readInto}
 use Rattle.desk_text.specs.declared.read.Limits.{Limits}
 use Rattle.desk_text.specs.declared.read.Reader.{Reader}
+use Rattle.desk_text.specs.Noted.{Noted, noted}
+use Rattle.desk_text.specs.Machine.{noNumbers, fresh}
+use Rattle.desk_text.specs.Feeding.{new-heard, heard-more}
 use Rattle.desk_text.specs.declared.read.Reading.{Reading}
 use Rattle.desk_text.specs.declared.read.Reading.the-variants.{Question}
 use Rattle.desk_text.specs.declared.read.Reading.the-variants as Reading
@@ -143,18 +146,18 @@ module _ (k : ℕ) (t old out : List ℕ) (e : (k, out) ≡ printed t old) where
   printed-is = count-is k out printed-fits
 
 -- the end of the input: what is printed is the desk's answer to the text heard
-pub record Responded (reader : Reader) (old : List ℕ) (r : ℕ) (out : List ℕ) : Type 0 where
+pub record Responded (reader : Noted) (old : List ℕ) (r : ℕ) (out : List ℕ) : Type 0 where
   pub fits : r ≤ length out
   pub says : (text : List ℕ) → Heard text reader → (r, out) ≡ printed (deskAnswer (questionOf text)) old
 
-pub responded-is : {reader : Reader} {old : List ℕ} {r : ℕ} {out : List ℕ} → Responded reader old r out → r ≡ length (take r out)
+pub responded-is : {reader : Noted} {old : List ℕ} {r : ℕ} {out : List ℕ} → Responded reader old r out → r ≡ length (take r out)
 responded-is {reader} {old} {r} {out} w = count-is r out (w .fits)
 
 same-said : (l l' : Limits) (a a' b b' : List ℕ) → l ≡ l' → a ≡ a' → b ≡ b' → said (planning l a b zeros) ≡ said (planning l' a' b' zeros)
 same-said l l' a a' b b' p q r = rw (p, q, r)
 
 -- what the desk says, by what the reader found
-module _ (reader : Reader) (s g s' g' : List ℕ) (x : Reading) (w : Finished reader s g x s' g') where
+module _ (reader : Noted) (s g s' g' : List ℕ) (x : Reading) (w : Finished reader s g x s' g') where
   pub respond-none : (out two : List ℕ) (r : ℕ) → x ≡ Reading.Unreadable → (r, two) ≡ printed unreadable out → Responded reader out r two
   respond-none out two r f h =
       record {
@@ -194,6 +197,6 @@ module _ (reader : Reader) (s g s' g' : List ℕ) (x : Reading) (w : Finished re
     pub respond-asked : (out two : List ℕ) (r : ℕ) → (r, two) ≡ printed (said (planning l (take n s') (take m g') zeros)) out → Responded reader out r two
     respond-asked out two r h = record { fits = printed-fits r (said (planning l (take n s') (take m g') zeros)) out two h; says = says out two r h }
 
-pub answer-whole : (text out two : List ℕ) (r : ℕ) (s t : Reader) → Heard [] s → Fed text s t →
-    Responded t out r two → (r, two) ≡ printed (deskAnswer (questionOf text)) out
-answer-whole text out two r s t h f g = g .says text (f .more [] h)
+pub answer-whole : (text out two list : List ℕ) (r : ℕ) (s : Reader) (t : Noted) → noted s noNumbers ≡ fresh → list ≡ noNumbers →
+    Fed text (noted s list) t → Responded t out r two → (r, two) ≡ printed (deskAnswer (questionOf text)) out
+answer-whole text out two list r s t n h f g = g .says text (heard-more [] text (noted s list) t f (new-heard s list n h))

@@ -69,6 +69,6 @@ planned-so =
     ∙ ap (λ (r : Answered Cost ℕ). given r (replicate 1000 0))
     (no-expansion a refl refl ∙ ap (λ (h : Held). record { plan = planHeld h; ending = 1; expansions = 0 }) held)
 
--- "Input `16 17 21 0 1000 1000`, `0 1 2`, `0` prints .."
+-- document 01's example ("Input")
 pub example : deskAnswer (questionOf (49 ∷ 54 ∷ 32 ∷ 49 ∷ 55 ∷ 32 ∷ 50 ∷ 49 ∷ 32 ∷ 48 ∷ 32 ∷ 49 ∷ 48 ∷ 48 ∷ 48 ∷ 32 ∷ 49 ∷ 48 ∷ 48 ∷ 48 ∷ 10 ∷ 48 ∷ 32 ∷ 49 ∷ 32 ∷ 50 ∷ 10 ∷ 48 ∷ [])) ≡ 49 ∷ 32 ∷ 51 ∷ 32 ∷ 55 ∷ 32 ∷ 51 ∷ 32 ∷ 55 ∷ 32 ∷ 51 ∷ 32 ∷ 49 ∷ 32 ∷ 49 ∷ 32 ∷ 48 ∷ 10 ∷ 115 ∷ 119 ∷ 97 ∷ 112 ∷ 32 ∷ 50 ∷ 10 ∷ 112 ∷ 111 ∷ 112 ∷ 10 ∷ 112 ∷ 111 ∷ 112 ∷ 10 ∷ []
 example = ap deskAnswer the-example ∙ ap said planned-so ∙ the-answer

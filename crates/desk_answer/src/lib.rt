@@ -5,6 +5,7 @@ use desk_text::print::print;
 use desk_text::read::Limits;
 use desk_text::read::Reader;
 use desk_text::read::Reading;
+use desk_text::read::number_room;
 use desk_text::tables::kinds;
 use desk_text::tables::prices;
 use planner::Answer;
@@ -12,6 +13,7 @@ use planner::plan;
 ghost use mathlib.Core.Path.{_≡_};
 ghost use Prim.Native.Nat.{_≤_};
 ghost use lib.ListN.{length};
+ghost use Rattle.desk_text.specs.Noted.{noted};
 ghost use Rattle.desk_text.specs.Question.{questionOf};
 ghost use Rattle.desk_text.specs.Reader.{Sound};
 ghost use Rattle.desk_text.specs.Text.{printed};
@@ -129,9 +131,9 @@ fn ask(limits: Limits, start: &[u8], goal: &[u8], out: &mut [u8]) -> usize
 }
 
 // What the desk says at the end of its input, over the first places of a buffer; how many bytes it is.
-pub fn respond(reader: Reader, out: &mut [u8]) -> usize
-    requires { ⌜ Sound reader × (32768 ≤ length (now out)) ⌝ }
-    ensures { λ r. ⌜ Responded reader (now (out .entry)) r (now (out .exit)) ⌝ }
+pub fn respond(reader: Reader, list: &mut [usize], out: &mut [u8]) -> usize
+    requires { ⌜ Sound (noted reader (now list)) × (32768 ≤ length (now out)) ⌝ }
+    ensures { λ r. ⌜ Responded (noted reader (now (list .entry))) (now (out .entry)) r (now (out .exit)) ⌝ }
 {
     let mut start = key_room();
     let mut goal = key_room();
@@ -139,7 +141,7 @@ pub fn respond(reader: Reader, out: &mut [u8]) -> usize
         limits,
         start: n,
         goal: m,
-    } = reader.finish(&mut start, &mut goal)
+    } = reader.finish(list, &mut start, &mut goal)
     else {
         return say_unreadable(out);
     };
@@ -151,6 +153,7 @@ pub fn answer(text: &[u8], out: &mut [u8]) -> usize
     requires { ⌜ 32768 ≤ length (now out) ⌝ }
     ensures { λ r. ⌜ (r, now (out .exit)) ≡ printed (deskAnswer (questionOf (now (text .entry)))) (now (out .entry)) ⌝ }
 {
-    let reader = Reader::new().feed(text);
-    respond(reader, out)
+    let mut list = number_room();
+    let reader = Reader::new().feed(text, &mut list);
+    respond(reader, &mut list, out)
 }

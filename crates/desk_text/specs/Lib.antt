@@ -2,12 +2,14 @@ pub mod Grammar
 pub mod Question
 pub mod Passed
 pub mod Words
+pub mod Noted
 pub mod Machine
 pub mod Reader
 pub mod Lines
 pub mod Parts
 pub mod Meaning
 pub mod Feeding
+pub mod Pieces
 pub mod Text
 pub mod Put
 pub mod Tables

@@ -9,7 +9,7 @@ use borrow.Author.Tests.{lt-ltb, le-ltb, eq-eqb, ne-eqb, eqb-true, eqb-false}
 use lib.Dec.{eqb}
 use lib.ListN.{length, take, drop}
 use Rattle.costs.specs.Choice.{_if_otherwise_}
-use Rattle.desk_text.specs.declared.read.Reader.{Reader}
+use Rattle.desk_text.specs.Noted.{Noted}
 use Rattle.desk_text.specs.Grammar.{lastLine, linesFrom, wordsFrom, allDigits, valueFrom, before, allRead, lineNumbers}
 use Rattle.desk_text.specs.Question.{Asked, questionOf}
 use Rattle.desk_text.specs.Machine.{fresh, lost, wordEnded, firstClosed, secondClosed, thirdClosed, lineClosed, lineFed, fedByte, fedAll, atEnd, outcome}
@@ -19,13 +19,13 @@ use Rattle.desk_text.specs.Lines.{fromFirst, fromLine, line-by-line, lin
 use Rattle.desk_text.specs.Parts.{slot, Part, fresh-part, On, still, gone, Ended, readable, unreadable, by, space-on, digit-on, word-ends, none-ends}
 
 -- the line ended: what the lines behind it make of the question
-data Next (s : Reader) (f : List (List ℕ) → Option Asked) : Type 0 where
+data Next (s : Noted) (f : List (List ℕ) → Option Asked) : Type 0 where
   line-next : (l st : List ℕ) → Part s [] l st [] [] → ((ls : List (List ℕ)) → f ls ≡ fromLine (s .line) l st ls) → Next s f
   all-read : s .line ≡ 3 → ((ls : List (List ℕ)) → f ls ≡ outcome s) → Next s f
   never : s .line ≡ 4 → ((ls : List (List ℕ)) → f ls ≡ none) → Next s f
 
 -- the reader at the start of a line
-line-start : (s : Reader) (l st : List ℕ) → Sound s → s .line < 3 → s .begun ≡ false → s .count ≡ 0 → s .digits ≡ false → s .value ≡ 0 →
+line-start : (s : Noted) (l st : List ℕ) → Sound s → s .line < 3 → s .begun ≡ false → s .count ≡ 0 → s .digits ≡ false → s .value ≡ 0 →
     (1 ≤ s .line → slot 0 6 (s .list) ≡ l) → (2 ≤ s .line → slot 1 (s .starts) (s .list) ≡ st) → Part s [] l st [] []
 unfolding allDigits valueFrom
 line-start s l st w a b c d v f g =
@@ -51,7 +51,7 @@ line-short-first : (l st line ms : List ℕ) (ls : List (List ℕ)) → lineNumb
 line-short-first l st line ms ls h n = rw (h, ne-eqb (length ms) 6 n)
 
 -- the line ends
-module _ (s : Reader) (line l st ms : List ℕ) (h : lineNumbers line ≡ some ms) (c : length ms ≡ s .count) (w : Sound s) (d : s .digits ≡ false) (v : s .value ≡ 0) where
+module _ (s : Noted) (line l st ms : List ℕ) (h : lineNumbers line ≡ some ms) (c : length ms ≡ s .count) (w : Sound s) (d : s .digits ≡ false) (v : s .value ≡ 0) where
   first-next : s .line ≡ 0 → s .count ≡ 6 → slot (s .line) (s .count) (s .list) ≡ ms → Next (firstClosed s) (λ ls. fromLine 0 l st (line ∷ ls))
   unfolding firstClosed
   first-next e n k =
@@ -77,27 +77,27 @@ module _ (s : Reader) (line l st ms : List ℕ) (h : lineNumbers line ≡ some m
       let z : take (s .count) (drop 128 (s .list)) ≡ ms = rw e at k in
       all-read refl (λ ls. rw (h, x, y, z))
 
-lost-closed : (s : Reader) → s .line ≡ 4 → lineClosed s ≡ s
+lost-closed : (s : Noted) → s .line ≡ 4 → lineClosed s ≡ s
 unfolding lineClosed
 lost-closed s e = rw e
 
-lost-at : (s : Reader) → lost s .line ≡ 4
+lost-at : (s : Noted) → lost s .line ≡ 4
 unfolding lost
 lost-at s = refl
 
-line-ends : (s : Reader) (k : ℕ) (line l st : List ℕ) → k < 3 → Ended s k line l st → Next (lineClosed s) (λ ls. fromLine k l st (line ∷ ls))
+line-ends : (s : Noted) (k : ℕ) (line l st : List ℕ) → k < 3 → Ended s k line l st → Next (lineClosed s) (λ ls. fromLine k l st (line ∷ ls))
 unfolding lineClosed
 line-ends s k line l st a (unreadable h e) = rw (lost-closed s e) (never e (λ ls. line-bad k l st line ls h))
 line-ends s k line l st a (readable ms h i c w e d v f g) =
-    by (λ (r : Reader). Next r (λ ls. fromLine k l st (line ∷ ls))) (eqb (s .line) 0)
+    by (λ (r : Noted). Next r (λ ls. fromLine k l st (line ∷ ls))) (eqb (s .line) 0)
     (λ x. let q : k ≡ 0 = sym e ∙ eqb-true _ _ x in
-    by (λ (r : Reader). Next r (λ ls. fromLine k l st (line ∷ ls))) (eqb (s .count) 6)
+    by (λ (r : Noted). Next r (λ ls. fromLine k l st (line ∷ ls))) (eqb (s .count) 6)
     (λ y. rw q (first-next s line l st ms h c w d v (eqb-true _ _ x) (eqb-true _ _ y) (rw e i)))
     (λ y. rw q (never (lost-at s) (λ ls. line-short-first l st line ms ls h (λ z. eqb-false _ _ y (sym c ∙ z))))))
-    (λ x. by (λ (r : Reader). Next r (λ ls. fromLine k l st (line ∷ ls))) (eqb (s .line) 1)
+    (λ x. by (λ (r : Noted). Next r (λ ls. fromLine k l st (line ∷ ls))) (eqb (s .line) 1)
     (λ y. let q : k ≡ 1 = sym e ∙ eqb-true _ _ y in
     rw q (second-next s line l st ms h c w d v (eqb-true _ _ y) (rw e i) (λ z. f (omega arith))))
-    (λ y. by (λ (r : Reader). Next r (λ ls. fromLine k l st (line ∷ ls))) (eqb (s .line) 2)
+    (λ y. by (λ (r : Noted). Next r (λ ls. fromLine k l st (line ∷ ls))) (eqb (s .line) 2)
     (λ z. let q : k ≡ 2 = sym e ∙ eqb-true _ _ z in
     rw q (third-next s line l st ms h c w d v (eqb-true _ _ z) (rw e i) (λ j. f (omega arith)) (λ j. g (omega arith))))
     (λ z. let m : s .line ≡ 0 → ⊥ = eqb-false _ _ x in
@@ -106,18 +106,18 @@ line-ends s k line l st a (readable ms h i c w e d v f g) =
     absurd (omega arith))))
 
 -- a line feed
-feed-next : (s : Reader) (line l st ns w : List ℕ) → Part s line l st ns w → Next (lineFed s) (λ ls. fromLine (s .line) l st (line ∷ ls))
+feed-next : (s : Noted) (line l st ns w : List ℕ) → Part s line l st ns w → Next (lineFed s) (λ ls. fromLine (s .line) l st (line ∷ ls))
 unfolding lineFed
 feed-next s line l st ns w p =
-    by (λ (r : Reader). Next r (λ ls. fromLine (s .line) l st (line ∷ ls))) (s .begun)
+    by (λ (r : Noted). Next r (λ ls. fromLine (s .line) l st (line ∷ ls))) (s .begun)
     (λ b. line-ends (wordEnded s) (s .line) line l st (p .active) (word-ends s line l st ns w p (sym (p .began) ∙ b)))
     (λ b. line-ends s (s .line) line l st (p .active) (none-ends s line l st ns w p (sym (p .began) ∙ b)))
 
 -- what the reader answers if the input ends
-unfoldable pub heard : Reader → Option Asked
+unfoldable pub heard : Noted → Option Asked
 heard s = outcome (atEnd s)
 
-module _ (s : Reader) where
+module _ (s : Noted) where
   past : (b : ℕ) → 2 < s .line → fedByte s b ≡ s
   unfolding fedByte
   past b h = rw (lt-ltb _ _ h)
@@ -146,19 +146,19 @@ module _ (s : Reader) where
   unfolding outcome
   early-none h = let n : s .line ≡ 3 → ⊥ = omega arith in rw (ne-eqb _ _ n)
 
-pub past-all : (bs : List ℕ) (s : Reader) → 2 < s .line → fedAll s bs ≡ s
+pub past-all : (bs : List ℕ) (s : Noted) → 2 < s .line → fedAll s bs ≡ s
 unfolding fedAll
 past-all [] s h = refl
-past-all (b ∷ bs) s h = ap (λ (r : Reader). fedAll r bs) (past s b h) ∙ past-all bs s h
+past-all (b ∷ bs) s h = ap (λ (r : Noted). fedAll r bs) (past s b h) ∙ past-all bs s h
 
 -- what a reader answers at the end of the input, where a line ended just before
-next-end : (s : Reader) (f : List (List ℕ) → Option Asked) → Next s f → outcome s ≡ f []
+next-end : (s : Noted) (f : List (List ℕ) → Option Asked) → Next s f → outcome s ≡ f []
 unfolding outcome
 next-end s f (line-next l st p e) = early-none s (p .active) ∙ sym (e [] ∙ lines-none (s .line) l st)
 next-end s f (all-read h e) = sym (e [])
 next-end s f (never h e) = rw h (sym (e []))
 
-end-run : (s : Reader) (line l st ns w : List ℕ) → Part s line l st ns w → heard s ≡ fromLine (s .line) l st (lastLine line)
+end-run : (s : Noted) (line l st ns w : List ℕ) → Part s line l st ns w → heard s ≡ fromLine (s .line) l st (lastLine line)
 unfolding heard atEnd fedByte
 end-run s line l st ns w p = go (s .begun) refl
   where
@@ -172,34 +172,34 @@ end-run s line l st ns w p = go (s .begun) refl
         early-none s (p .active) ∙ rw f (sym (lines-none (s .line) l st))
 
 -- a byte that is no line feed
-byte-on : (s : Reader) (line l st ns w : List ℕ) (b : ℕ) → Part s line l st ns w → (b ≡ 10 → ⊥) → On (fedByte s b) (s .line) (line ++ (b ∷ [])) l st
+byte-on : (s : Noted) (line l st ns w : List ℕ) (b : ℕ) → Part s line l st ns w → (b ≡ 10 → ⊥) → On (fedByte s b) (s .line) (line ++ (b ∷ [])) l st
 unfolding fedByte
 byte-on s line l st ns w b p n =
     let m : s .line ≤ 2 = omega (arith, p .active) in
     rw (le-ltb _ _ m, ne-eqb _ _ n)
-    (by (λ (r : Reader). On r (s .line) (line ++ (b ∷ [])) l st) (eqb b 32) (λ e. space-on s line l st ns w p b (eqb-true _ _ e)) (λ e. digit-on s line l st ns w p b (eqb-false _ _ e)))
+    (by (λ (r : Noted). On r (s .line) (line ++ (b ∷ [])) l st) (eqb b 32) (λ e. space-on s line l st ns w p b (eqb-true _ _ e)) (λ e. digit-on s line l st ns w p b (eqb-false _ _ e)))
 
-byte-feed : (s : Reader) (line l st ns w : List ℕ) (b : ℕ) → Part s line l st ns w → b ≡ 10 → fedByte s b ≡ lineFed s
+byte-feed : (s : Noted) (line l st ns w : List ℕ) (b : ℕ) → Part s line l st ns w → b ≡ 10 → fedByte s b ≡ lineFed s
 unfolding fedByte
 byte-feed s line l st ns w b p e =
     let m : s .line ≤ 2 = omega (arith, p .active) in
     rw (le-ltb _ _ m, eq-eqb _ _ e)
 
 -- the reader's answer is that of the lines from the one that is read on
-run : (bs : List ℕ) (s : Reader) (line l st ns w : List ℕ) → Part s line l st ns w → heard (fedAll s bs) ≡ fromLine (s .line) l st (linesFrom line bs)
+run : (bs : List ℕ) (s : Noted) (line l st ns w : List ℕ) → Part s line l st ns w → heard (fedAll s bs) ≡ fromLine (s .line) l st (linesFrom line bs)
 unfolding fedAll linesFrom
 run [] s line l st ns w p = end-run s line l st ns w p
 run (b ∷ bs) s line l st ns w p = go (run bs) (eqb b 10) refl
   where
     Hyp : Type 0
-    Hyp = (s : Reader) (line l st ns w : List ℕ) → Part s line l st ns w → heard (fedAll s bs) ≡ fromLine (s .line) l st (linesFrom line bs)
+    Hyp = (s : Noted) (line l st ns w : List ℕ) → Part s line l st ns w → heard (fedAll s bs) ≡ fromLine (s .line) l st (linesFrom line bs)
 
-    fed : Hyp → (r : Reader) (f : List (List ℕ) → Option Asked) → Next r f → heard (fedAll r bs) ≡ f (linesFrom [] bs)
+    fed : Hyp → (r : Noted) (f : List (List ℕ) → Option Asked) → Next r f → heard (fedAll r bs) ≡ f (linesFrom [] bs)
     fed i r f (line-next l st q e) = i r [] l st [] [] q ∙ sym (e (linesFrom [] bs))
     fed i r f (all-read h e) = ap heard (past-all bs r (omega arith)) ∙ done-outcome r h ∙ sym (e (linesFrom [] bs))
     fed i r f (never h e) = ap heard (past-all bs r (omega arith)) ∙ lost-none r h ∙ sym (e (linesFrom [] bs))
 
-    on : Hyp → (r : Reader) → On r (s .line) (line ++ (b ∷ [])) l st → heard (fedAll r bs) ≡ fromLine (s .line) l st (linesFrom (line ++ (b ∷ [])) bs)
+    on : Hyp → (r : Noted) → On r (s .line) (line ++ (b ∷ [])) l st → heard (fedAll r bs) ≡ fromLine (s .line) l st (linesFrom (line ++ (b ∷ [])) bs)
     on i r (still ms u q e) = i r (line ++ (b ∷ [])) l st ms u q ∙ ap (λ (k : ℕ). fromLine k l st (linesFrom (line ++ (b ∷ [])) bs)) e
     on i r (gone h e) =
         ap heard (past-all bs r (omega arith))
@@ -208,7 +208,7 @@ run (b ∷ bs) s line l st ns w p = go (run bs) (eqb b 10) refl
 
     go : Hyp → (t : Bool) → eqb b 10 ≡ t → heard (fedAll (fedByte s b) bs) ≡ fromLine (s .line) l st ((line ∷ linesFrom [] bs) if t otherwise (linesFrom (line ++ (b ∷ [])) bs))
     go i true e =
-        ap (λ (r : Reader). heard (fedAll r bs)) (byte-feed s line l st ns w b p (eqb-true _ _ e))
+        ap (λ (r : Noted). heard (fedAll r bs)) (byte-feed s line l st ns w b p (eqb-true _ _ e))
         ∙ fed i (lineFed s) (λ ls. fromLine (s .line) l st (line ∷ ls)) (feed-next s line l st ns w p)
     go i false e = on i (fedByte s b) (byte-on s line l st ns w b p (eqb-false _ _ e))
 
@@ -221,26 +221,7 @@ heard-question text = run text fresh [] [] [] [] [] fresh-part ∙ at-first ∙ 
     at-first = refl
 
 -- a text fed in two parts
-pub fed-append : (xs ys : List ℕ) (s : Reader) → fedAll s (xs ++ ys) ≡ fedAll (fedAll s xs) ys
+pub fed-append : (xs ys : List ℕ) (s : Noted) → fedAll s (xs ++ ys) ≡ fedAll (fedAll s xs) ys
 unfolding fedAll
 fed-append [] ys s = refl
 fed-append (x ∷ xs) ys s = fed-append xs ys (fedByte s x)
-
--- chunks fed one after the other
-unfoldable pub fedChunks : Reader → List (List ℕ) → Reader
-fedChunks s [] = s
-fedChunks s (c ∷ cs) = fedChunks (fedAll s c) cs
-
--- chunks in a row
-unfoldable pub joined : List (List ℕ) → List ℕ
-joined [] = []
-joined (c ∷ cs) = c ++ joined cs
-
-chunks-row : (cs : List (List ℕ)) (s : Reader) → fedChunks s cs ≡ fedAll s (joined cs)
-unfolding fedChunks joined fedAll
-chunks-row [] s = refl
-chunks-row (c ∷ cs) s = chunks-row cs (fedAll s c) ∙ sym (fed-append c (joined cs) s)
-
--- however the input comes in chunks, the answer is the question of the whole
-pub chunks-question : (cs : List (List ℕ)) → heard (fedChunks fresh cs) ≡ questionOf (joined cs)
-chunks-question cs = ap heard (chunks-row cs fresh) ∙ heard-question (joined cs)

@@ -11,9 +11,9 @@ use lib.Dec.{eqb, ltb}
 use lib.ListN.{length, take, drop, set, length-set, length-drop, length-append}
 use lib.Seq.{take-set-le, drop-set-add, take-suc-set, length-take-le}
 use Rattle.costs.specs.Choice.{_if_otherwise_}
-use Rattle.desk_text.specs.declared.read.Reader.{Reader}
+use Rattle.desk_text.specs.Noted.{Noted}
 use Rattle.desk_text.specs.Grammar.{wordsFrom, isDigit, valueFrom, numberOf, before, allRead, few, lineNumbers}
-use Rattle.desk_text.specs.Machine.{fresh, lost, kept, wordEnded, digitKept, digitFed}
+use Rattle.desk_text.specs.Machine.{noNumbers, fresh, lost, kept, wordEnded, digitKept, digitFed}
 use Rattle.desk_text.specs.Reader.{Sound, fresh-sound}
 use Rattle.desk_text.specs.Words.{full, full-more, full-on, full-not, Word, word-empty, word-number, word-strange, word-large, word-more, join, join-none, join-one, line-words, line-empty, many, few-enough}
 
@@ -36,7 +36,7 @@ slot-second n i list v h m =
     ap (λ (j : ℕ). take n (drop 64 (set list j v))) e ∙ ap (take n) (drop-set-add 64 list (i - 64) v) ∙ take-set-le n (drop 64 list) (i - 64) v k
 
 -- a reader in the middle of a line: l and st are the numbers of the lines before, ns those of the line so far, w the word so far
-pub record Part (s : Reader) (line l st ns w : List ℕ) : Type 0 where
+pub record Part (s : Noted) (line l st ns w : List ℕ) : Type 0 where
   pub sound : Sound s
   pub active : s .line < 3
   pub first : 1 ≤ s .line → slot 0 6 (s .list) ≡ l
@@ -50,7 +50,7 @@ pub record Part (s : Reader) (line l st ns w : List ℕ) : Type 0 where
   pub words : (more : List ℕ) → allRead (wordsFrom [] (line ++ more)) ≡ join ns (allRead (wordsFrom w more))
 
 pub fresh-part : Part fresh [] [] [] [] []
-unfolding fresh
+unfolding fresh noNumbers
 fresh-part =
     record {
       sound = fresh-sound;
@@ -66,7 +66,7 @@ fresh-part =
       words = λ more. join-none (allRead (wordsFrom [] more));
     }
 
-module _ (s : Reader) (line l st ns w : List ℕ) (p : Part s line l st ns w) where
+module _ (s : Noted) (line l st ns w : List ℕ) (p : Part s line l st ns w) where
   part-count : length ns ≡ s .count
   part-count =
       let n : s .count ≤ length (drop (64 * s .line) (s .list)) = omega (arith, length-drop (64 * s .line) (s .list), p .sound .places, p .sound .within, p .active) in
@@ -101,22 +101,22 @@ module _ (s : Reader) (line l st ns w : List ℕ) (p : Part s line l st ns w) wh
   number h = word-number w (s .value) (p .word) (sym (p .has) ∙ h)
 
 -- one byte more on the line: the reader is in the longer line, or lost, and the lines from the longer one on are unreadable
-pub data On (s : Reader) (k : ℕ) (line l st : List ℕ) : Type 0 where
+pub data On (s : Noted) (k : ℕ) (line l st : List ℕ) : Type 0 where
   still : (ns w : List ℕ) → Part s line l st ns w → s .line ≡ k → On s k line l st
   gone : s .line ≡ 4 → ((more : List ℕ) → lineNumbers (line ++ more) ≡ none) → On s k line l st
 
 -- the word ended: what the line's numbers are if the line ends here
-pub data Ended (s : Reader) (k : ℕ) (line l st : List ℕ) : Type 0 where
+pub data Ended (s : Noted) (k : ℕ) (line l st : List ℕ) : Type 0 where
   readable : (ms : List ℕ) → lineNumbers line ≡ some ms → slot k (s .count) (s .list) ≡ ms → length ms ≡ s .count → Sound s → s .line ≡ k → s .digits ≡ false → s .value ≡ 0 →
       (1 ≤ k → slot 0 6 (s .list) ≡ l) → (2 ≤ k → slot 1 (s .starts) (s .list) ≡ st) → Ended s k line l st
   unreadable : lineNumbers line ≡ none → s .line ≡ 4 → Ended s k line l st
 
 -- by a test
-pub by : (P : Reader → Type 0) (b : Bool) {x y : Reader} → (b ≡ true → P x) → (b ≡ false → P y) → P (x if b otherwise y)
+pub by : (P : Noted → Type 0) (b : Bool) {x y : Noted} → (b ≡ true → P x) → (b ≡ false → P y) → P (x if b otherwise y)
 by P true p q = p refl
 by P false p q = q refl
 
-module _ (s : Reader) (line l st ns w : List ℕ) (p : Part s line l st ns w) where
+module _ (s : Noted) (line l st ns w : List ℕ) (p : Part s line l st ns w) where
   kept-sound : (s .count ≡ 64 → ⊥) → Sound (kept s)
   unfolding kept
   kept-sound n = record { small = omega arith; within = omega (arith, p .sound .within); starts = p .sound .starts; places = simp length-set (p .sound .places) }
@@ -164,8 +164,8 @@ module _ (s : Reader) (line l st ns w : List ℕ) (p : Part s line l st ns w) wh
   pub space-on : (b : ℕ) → b ≡ 32 → On (wordEnded s) (s .line) (line ++ (b ∷ [])) l st
   unfolding wordEnded
   space-on b e =
-      by (λ (r : Reader). On r (s .line) (line ++ (b ∷ [])) l st) (s .digits)
-      (λ d. by (λ (r : Reader). On r (s .line) (line ++ (b ∷ [])) l st) (eqb (s .count) 64)
+      by (λ (r : Noted). On r (s .line) (line ++ (b ∷ [])) l st) (s .digits)
+      (λ d. by (λ (r : Noted). On r (s .line) (line ++ (b ∷ [])) l st) (eqb (s .count) 64)
       (λ f. gone lost-line (λ more. byte-line s line l st ns w p b more ∙ rw (space-words s line l st ns w p b more e, number s line l st ns w p d)
       (many ns (s .value) (allRead (wordsFrom [] more)) (part-count s line l st ns w p ∙ eqb-true _ _ f))))
       (λ f. still (ns ++ (s .value ∷ [])) [] (space-kept b e d (eqb-false _ _ f)) kept-line))
@@ -194,11 +194,11 @@ module _ (s : Reader) (line l st ns w : List ℕ) (p : Part s line l st ns w) wh
   digit-line v = refl
 
   -- a byte that is neither a line feed nor a space
-  pub digit-on : (b : ℕ) → (b ≡ 32 → ⊥) → On (digitFed s b) (s .line) (line ++ (b ∷ [])) l st
+  pub digit-on : (b : ℕ) → (b ≡ 32 → ⊥) → On (digitFed b s) (s .line) (line ++ (b ∷ [])) l st
   unfolding digitFed
   digit-on b n =
-      by (λ (r : Reader). On r (s .line) (line ++ (b ∷ [])) l st) (isDigit b)
-      (λ d. by (λ (r : Reader). On r (s .line) (line ++ (b ∷ [])) l st) (ltb 65536 (s .value * 10 + (b - 48)))
+      by (λ (r : Noted). On r (s .line) (line ++ (b ∷ [])) l st) (isDigit b)
+      (λ d. by (λ (r : Noted). On r (s .line) (line ++ (b ∷ [])) l st) (ltb 65536 (s .value * 10 + (b - 48)))
       (λ f. gone lost-line (λ more. byte-line s line l st ns w p b more ∙ rw (digit-words s line l st ns w p b more n, word-large w (s .value) (p .word) b more (ltb-true _ _ f))))
       (λ f. still ns (w ++ (b ∷ [])) (digit-kept b n d (ltb-false _ _ f)) (digit-line (s .value * 10 + (b - 48)))))
       (λ d. gone lost-line (λ more. byte-line s line l st ns w p b more ∙ rw (digit-words s line l st ns w p b more n, word-strange w (s .value) (p .word) b more d)))
@@ -223,8 +223,8 @@ module _ (s : Reader) (line l st ns w : List ℕ) (p : Part s line l st ns w) wh
   pub word-ends : full line ≡ true → Ended (wordEnded s) (s .line) line l st
   unfolding wordEnded
   word-ends h =
-      by (λ (r : Reader). Ended r (s .line) line l st) (s .digits)
-      (λ d. by (λ (r : Reader). Ended r (s .line) line l st) (eqb (s .count) 64)
+      by (λ (r : Noted). Ended r (s .line) line l st) (s .digits)
+      (λ d. by (λ (r : Noted). Ended r (s .line) line l st) (eqb (s .count) 64)
       (λ f. unreadable (end-line h ∙ rw (number s line l st ns w p d) (many ns (s .value) (some []) (part-count s line l st ns w p ∙ eqb-true _ _ f))) lost-line)
       (λ f. kept-ended h d (eqb-false _ _ f)))
       (λ d. unreadable (end-line h ∙ rw (no-number s line l st ns w p d)) lost-line)

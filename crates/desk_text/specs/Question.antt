@@ -10,7 +10,7 @@ use Rattle.desk_text.specs.declared.read.Reading.{Reading}
 use Rattle.desk_text.specs.declared.read.Reading.the-variants.{Question, Unreadable}
 use Rattle.desk_text.specs.Grammar.{linesFrom, lineNumbers}
 
--- the first line's numbers in their order ("a line with `dup_max swap_max max_len` and the allowances in the order above")
+-- the first line's numbers in their order ("`desk` reads")
 abbrev pub limitsOf : List ℕ → Limits
 limitsOf ns =
     record {
@@ -22,18 +22,18 @@ limitsOf ns =
       «states_with» = getD ns 5 0;
     }
 
--- numbers, if they are six ("a first line of other than six numbers .. prints `unreadable`")
+-- numbers, if they are six ("A missing line")
 abbrev pub six : Option (List ℕ) → Option (List ℕ)
 six none = none
 six (some ns) = some ns if eqb (length ns) 6 otherwise none
 
--- a question as it is read: the first line's numbers, the numbers of the start's line and of the goal's ("a line of start keys, a line of goal keys")
+-- a question as it is read: the first line's numbers, the numbers of the start's line and of the goal's ("`desk` reads")
 pub record Asked : Type 0 where
   pub limits : List ℕ
   pub start : List ℕ
   pub goal : List ℕ
 
--- the first three lines, if there are as many ("what follows the third line is passed over. A missing line .. prints `unreadable`")
+-- the first three lines, if there are as many ("what follows the third line", "A missing line")
 abbrev pub firstThree : List (List ℕ) → Option (List ℕ × List ℕ × List ℕ)
 firstThree [] = none
 firstThree (a ∷ []) = none

@@ -17,25 +17,25 @@ unfoldable pub table : (ℕ → ℕ) → ℕ → List ℕ
 table f zero = []
 table f (suc n) = table f n ++ (f n ∷ [])
 
--- a key's kind: 0 to 31 are values, 32 is the immediate zero, the others are immediates ("keys 0 to 31 values .., key 32 zero .., others immediates")
+-- a key's kind: 0 to 31 are values, 32 is the immediate zero, the others are immediates ("Its price list")
 unfoldable pub deskKind : ℕ → ℕ
 deskKind k = 0 if ltb k 32 otherwise 2 if eqb k 32 otherwise 1
 
--- the price of pushing or loading a key of a kind ("values 6/3, .. zero 2/1, others immediates 3/2")
+-- the price of pushing or loading a key of a kind ("Its price list")
 unfoldable pub keyPrice : ℕ → Cost
 keyPrice kind =
     record { gas = 6; bytes = 3 } if eqb kind 0 otherwise
     record { gas = 2; bytes = 1 } if eqb kind 2 otherwise
     record { gas = 3; bytes = 2 }
 
--- the pair at a place of the price list ("pop 2/1, Dup 3/1, Swap 3/1"; places: "pop, Dup 0 to 15, Swap 0 to 16, .. key 0 to 63", "A question comes in")
+-- the pair at a place of the price list ("Its price list"; the places: "A question comes in")
 unfoldable pub deskPair : ℕ → Cost
 deskPair p =
     record { gas = 2; bytes = 1 } if eqb p 0 otherwise
     record { gas = 3; bytes = 1 } if ltb p 34 otherwise
     keyPrice (deskKind (p - 34))
 
--- the number at a place of the price list ("pairs gas, bytes", "A question comes in")
+-- the number at a place of the price list ("A question comes in")
 unfoldable pub deskPrice : ℕ → ℕ
 deskPrice i = deskPair (i / 2) .gas if eqb (i % 2) 0 otherwise deskPair (i / 2) .bytes
 

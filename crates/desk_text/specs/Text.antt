@@ -54,7 +54,7 @@ unfoldable pub stepsText : List ℕ → List ℕ
 stepsText [] = []
 stepsText (c ∷ cs) = codeText (decoded c) ++ stepsText cs
 
--- the nine fields in order ("with the nine fields in order", which is that of "The planner's answer")
+-- the nine fields, in the order of "The planner's answer"
 abbrev pub fieldsOf : Fields → List ℕ
 fieldsOf a =
     a .found ∷ a .«step_count» ∷ a .«plan_gas» ∷ a .«plan_bytes» ∷ a .«ceiling_gas» ∷ a .«ceiling_bytes» ∷ a .origin ∷ a .ending ∷ a .expansions ∷ []
@@ -63,7 +63,7 @@ fieldsOf a =
 abbrev pub planText : Fields → List ℕ → List ℕ
 planText a steps = lineText (fieldsOf a) ++ stepsText steps
 
--- what the desk prints: an answer, a refusal's one line ("as `refused 6`"), or `unreadable`
+-- what the desk prints: an answer, a refusal's one line, or `unreadable`
 abbrev pub deskText : Spoken → List ℕ → List ℕ
 deskText (Plan a) steps = planText a steps
 deskText (Refused n) steps = wordLine (114 ∷ 101 ∷ 102 ∷ 117 ∷ 115 ∷ 101 ∷ 100 ∷ 32 ∷ []) n

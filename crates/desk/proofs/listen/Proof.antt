@@ -1,54 +1,34 @@
 use borrow.Author.Needs.{needs}
 use mathlib.Core.Path.{_≡_}
 use lib.ListN.{length}
-use Rattle.desk_text.specs.Reader.{Sound}
+use Rattle.desk_text.specs.Noted.{noted}
+use Rattle.desk_text.specs.Pieces.{FedPieces, piece-none, piece-more}
 use Rattle.desk.proofs.listen.Statement.{statement}
 use Rattle.desk.proofs.listen.Tie as tie
 
 abbrev Inv-loop : tie.InvT-loop
-Inv-loop reader₀ chunk₀ turns₀ reader chunk turns = Sound reader × (length chunk ≡ 65536)
+Inv-loop piece₀ list₀ last₀ turns₀ piece list last turns = FedPieces (noted (last₀ .reader) list₀) (noted (last .reader) list) × (length piece ≡ length piece₀) × (length list ≡ length list₀)
 
 abbrev μ-loop : tie.MeasureT-loop
-μ-loop reader₀ chunk₀ turns₀ reader chunk turns = turns
-
-new-requires : tie.Need-new-requires Inv-loop μ-loop
-new-requires c κs = search needs
-
-large-buffer-requires : tie.Need-large-buffer-requires Inv-loop μ-loop
-large-buffer-requires c κs = search needs
+μ-loop piece₀ list₀ last₀ turns₀ piece list last turns = turns
 
 loop-holds : tie.Need-loop-holds Inv-loop μ-loop
-loop-holds c = search needs
+loop-holds c = search (needs, piece-none)
 
-slice-aggregate-read : tie.Need-slice-aggregate-read Inv-loop μ-loop
-slice-aggregate-read c = search needs
+hear-requires : tie.Need-hear-requires Inv-loop μ-loop
+hear-requires c κs = search needs
 
-read-requires : tie.Need-read-requires Inv-loop μ-loop
-read-requires c κs = search needs
+is-over-requires : tie.Need-is-over-requires Inv-loop μ-loop
+is-over-requires c κs = search needs
 
-slice-aggregate-count : tie.Need-slice-aggregate-count Inv-loop μ-loop
-slice-aggregate-count c = search needs
+same-length : tie.Need-same-length Inv-loop μ-loop
+same-length c = search needs
 
-count-requires : tie.Need-count-requires Inv-loop μ-loop
-count-requires c κs = search needs
+same-length-2 : tie.Need-same-length-2 Inv-loop μ-loop
+same-length-2 c = search needs
 
 returns : tie.Need-returns Inv-loop μ-loop
-returns c = search needs
-
-array-share-prefix-chunk : tie.Need-array-share-prefix-chunk Inv-loop μ-loop
-array-share-prefix-chunk c = search needs
-
-slice-aggregate-feed : tie.Need-slice-aggregate-feed Inv-loop μ-loop
-slice-aggregate-feed c = search needs
-
-feed-requires : tie.Need-feed-requires Inv-loop μ-loop
-feed-requires c κs = search needs
-
-is-settled-requires : tie.Need-is-settled-requires Inv-loop μ-loop
-is-settled-requires c κs = search needs
-
-returns-2 : tie.Need-returns-2 Inv-loop μ-loop
-returns-2 c = search needs
+returns c = search piece-more
 
 sub-turns : tie.Need-sub-turns Inv-loop μ-loop
 sub-turns c = search needs
@@ -57,10 +37,16 @@ loop-less : tie.Need-loop-less Inv-loop μ-loop
 loop-less c = search needs
 
 loop-again : tie.Need-loop-again Inv-loop μ-loop
-loop-again c = search needs
+loop-again c = search (needs, piece-more)
 
-returns-3 : tie.Need-returns-3 Inv-loop μ-loop
-returns-3 c = search needs
+same-length-3 : tie.Need-same-length-3 Inv-loop μ-loop
+same-length-3 c = search needs
+
+same-length-4 : tie.Need-same-length-4 Inv-loop μ-loop
+same-length-4 c = search needs
+
+returns-2 : tie.Need-returns-2 Inv-loop μ-loop
+returns-2 c = search needs
 
 pub listen-spec : {M : Type 1} → statement M
 listen-spec =
@@ -68,20 +54,15 @@ listen-spec =
     (tie.spec
     Inv-loop
     μ-loop
-    new-requires
-    large-buffer-requires
     loop-holds
-    slice-aggregate-read
-    read-requires
-    slice-aggregate-count
-    count-requires
+    hear-requires
+    is-over-requires
+    same-length
+    same-length-2
     returns
-    array-share-prefix-chunk
-    slice-aggregate-feed
-    feed-requires
-    is-settled-requires
-    returns-2
     sub-turns
     loop-less
     loop-again
-    returns-3)
+    same-length-3
+    same-length-4
+    returns-2)

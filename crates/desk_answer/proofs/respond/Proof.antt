@@ -30,6 +30,9 @@ say-unreadable-requires c κs = search needs
 same-length : tie.Need-same-length
 same-length c = search needs
 
+same-length-2 : tie.Need-same-length-2
+same-length-2 c = search needs
+
 returns : tie.Need-returns
 returns c = search respond-none
 
@@ -48,8 +51,11 @@ slice-aggregate-ask-2 c = search (needs, goal-is)
 ask-requires : tie.Need-ask-requires
 ask-requires c κs = search needs
 
-same-length-2 : tie.Need-same-length-2
-same-length-2 c = search needs
+same-length-3 : tie.Need-same-length-3
+same-length-3 c = search needs
+
+same-length-4 : tie.Need-same-length-4
+same-length-4 c = search needs
 
 returns-2 : tie.Need-returns-2
 returns-2 c = search respond-asked
@@ -67,11 +73,13 @@ respond-spec =
     enum-told
     say-unreadable-requires
     same-length
+    same-length-2
     returns
     array-share-prefix-start
     slice-aggregate-ask
     array-share-prefix-goal
     slice-aggregate-ask-2
     ask-requires
-    same-length-2
+    same-length-3
+    same-length-4
     returns-2)

@@ -1,6 +1,5 @@
 use borrow.Author.Needs.{needs}
 use Rattle.desk_text.specs.Feeding.{digit-strange, digit-large, digit-more, digit-from, digit-to}
-use Rattle.desk_text.specs.Machine.{digitKept}
 use Rattle.desk_text.proofs.read.Reader.digit_fed.Statement.{statement}
 use Rattle.desk_text.proofs.read.Reader.digit_fed.Tie as tie
 
@@ -23,7 +22,6 @@ returns-2 : tie.Need-returns-2
 returns-2 c = search digit-large
 
 returns-3 : tie.Need-returns-3
-unfolding digitKept
 returns-3 c = search digit-more
 
 pub digit-fed-spec : {M : Type 1} → statement M

@@ -9,11 +9,17 @@ returns c = search fed-past
 line-fed-requires : tie.Need-line-fed-requires
 line-fed-requires c κs = search needs
 
+same-length : tie.Need-same-length
+same-length c = search needs
+
 returns-2 : tie.Need-returns-2
 returns-2 c = search fed-line
 
 word-ended-requires : tie.Need-word-ended-requires
 word-ended-requires c κs = search needs
+
+same-length-2 : tie.Need-same-length-2
+same-length-2 c = search needs
 
 returns-3 : tie.Need-returns-3
 returns-3 c = search fed-space
@@ -30,8 +36,10 @@ fed-spec =
     (tie.spec
     returns
     line-fed-requires
+    same-length
     returns-2
     word-ended-requires
+    same-length-2
     returns-3
     digit-fed-requires
     returns-4)

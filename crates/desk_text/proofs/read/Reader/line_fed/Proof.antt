@@ -9,6 +9,9 @@ word-ended-requires c κs = search needs
 line-closed-requires : tie.Need-line-closed-requires
 line-closed-requires c κs = search needs
 
+same-length : tie.Need-same-length
+same-length c = search needs
+
 returns : tie.Need-returns
 returns c = search line-fed-word
 
@@ -21,4 +24,10 @@ returns-2 c = search line-fed-empty
 pub line-fed-spec : {M : Type 1} → statement M
 line-fed-spec =
     tie.close
-    (tie.spec word-ended-requires line-closed-requires returns line-closed-requires-2 returns-2)
+    (tie.spec
+    word-ended-requires
+    line-closed-requires
+    same-length
+    returns
+    line-closed-requires-2
+    returns-2)

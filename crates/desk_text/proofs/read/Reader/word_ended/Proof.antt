@@ -18,9 +18,13 @@ returns-2 c = search word-many
 kept-requires : tie.Need-kept-requires
 kept-requires c κs = search needs
 
+same-length : tie.Need-same-length
+same-length c = search needs
+
 returns-3 : tie.Need-returns-3
 returns-3 c = search word-kept
 
 pub word-ended-spec : {M : Type 1} → statement M
 word-ended-spec =
-    tie.close (tie.spec lost-requires returns lost-requires-2 returns-2 kept-requires returns-3)
+    tie.close
+    (tie.spec lost-requires returns lost-requires-2 returns-2 kept-requires same-length returns-3)
