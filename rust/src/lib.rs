@@ -1,22 +1,24 @@
-//! The stack window planner: typed questions and answers over the proved library libcapi.a.
+//! The stack window planner: typed questions and answers over the library libnimskerf.a.
 //!
-//! ```no_run
-//! use nimskerf::{Allowances, Planner, Question, Reaches, Tables};
+//! ```
+//! use nimskerf::{Mark, Planner, Question, Step, mark};
 //!
-//! let tables = Tables::desk();
-//! let question = Question {
-//!     start: &[0, 1, 2],
-//!     goal: &[0],
-//!     reaches: Reaches { dup_max: 16, swap_max: 17, max_len: 21 },
-//!     allowances: Allowances { max_expansions: 1000, states_without: 1000, states_with: 1000 },
-//!     tables: &tables,
-//! };
-//! let answer = Planner::new().plan(&question)?;
-//! for step in answer.plan.expect("a plan").steps {
+//! let question = Question::new(&[0, 2], &[0, 0, 3]);
+//! let plan = Planner::new().plan(&question)?.plan.expect("a plan");
+//! for step in &plan.steps {
 //!     println!("{step}");
 //! }
+//! println!("pass mark: {} gas, {} bytes; {}", plan.ceiling.gas, plan.ceiling.bytes, plan.origin);
+//! let answer = [Step::Pop, Step::Pop, Step::LoadVal(3), Step::LoadVal(0), Step::Dup(0)];
+//! assert_eq!(mark(&question, &answer, plan.ceiling)?.mark, Mark::TooDear);
 //! # Ok::<(), nimskerf::Refusal>(())
 //! ```
+//!
+//! Structs and enums that later versions add to are `non_exhaustive`: a question begins with [`Question::new`], which
+//! gives every field to come a default that keeps the old answers.
+//!
+//! Calls go to the proved functions (`sys::nimskerf_proved_...`): a Rust slice meets what they ask of a list, so the
+//! checks of the C functions over them have nothing to find.
 
 pub mod raw;
 pub mod sys;
@@ -24,6 +26,8 @@ mod types;
 
 pub use raw::{Limits, Lists};
 pub use types::{Allowances, Cost, Ending, Kind, Mark, Origin, PriceList, Reaches, Refusal, Step, Tables};
+
+use std::sync::LazyLock;
 
 /// The longest window that can be packed.
 pub const MAX_LEN: usize = 21;
@@ -40,8 +44,11 @@ pub const HEADS_LENT: usize = 2;
 /// Numbers to an entry of the open list.
 pub const OPEN_NUMBERS: usize = 4;
 
-/// A question to the planner. Windows are keys 0 to 63, top first.
+static DESK: LazyLock<Tables> = LazyLock::new(Tables::desk);
+
+/// A question. Windows are keys 0 to 63, top first. Each call reads only the fields that it takes.
 #[derive(Clone, Copy, Debug)]
+#[non_exhaustive]
 pub struct Question<'a> {
     pub start: &'a [u8],
     pub goal: &'a [u8],
@@ -50,8 +57,28 @@ pub struct Question<'a> {
     pub tables: &'a Tables,
 }
 
+impl<'a> Question<'a> {
+    /// With the default reaches and allowances and the exam desk's tables.
+    pub fn new(start: &'a [u8], goal: &'a [u8]) -> Self {
+        Self { start, goal, reaches: Reaches::default(), allowances: Allowances::default(), tables: &DESK }
+    }
+
+    pub const fn with_reaches(self, reaches: Reaches) -> Self {
+        Self { reaches, ..self }
+    }
+
+    pub const fn with_allowances(self, allowances: Allowances) -> Self {
+        Self { allowances, ..self }
+    }
+
+    pub const fn with_tables(self, tables: &'a Tables) -> Self {
+        Self { tables, ..self }
+    }
+}
+
 /// A plan from start to goal.
 #[derive(Clone, Debug, PartialEq, Eq)]
+#[non_exhaustive]
 pub struct Plan {
     pub steps: Vec<Step>,
     /// The sum of the listed prices of the steps.
@@ -63,12 +90,28 @@ pub struct Plan {
 
 /// The planner's answer to an accepted question.
 #[derive(Clone, Debug, PartialEq, Eq)]
+#[non_exhaustive]
 pub struct Answer {
     /// None if no plan was found.
     pub plan: Option<Plan>,
     pub ending: Ending,
     /// How many states were expanded.
     pub expansions: usize,
+}
+
+/// Replay's answer to accepted steps.
+#[derive(Clone, Debug, PartialEq, Eq)]
+#[non_exhaustive]
+pub struct Replayed {
+    /// The window that the steps lead to.
+    pub window: Vec<u8>,
+}
+
+/// Marking's answer to accepted steps.
+#[derive(Clone, Copy, Debug, PartialEq, Eq)]
+#[non_exhaustive]
+pub struct Marked {
+    pub mark: Mark,
 }
 
 /// Owns the lists that a planning needs, and keeps them from one planning to the next.
@@ -144,54 +187,35 @@ pub fn plan_in(question: &Question<'_>, lists: Lists<'_>) -> Result<Answer, Refu
     Ok(Answer { plan, ending: Ending::from_number(answer.ending), expansions: answer.expansions })
 }
 
-/// The window that steps lead to.
-pub fn replay(start: &[u8], steps: &[Step], reaches: Reaches, tables: &Tables) -> Result<Vec<u8>, Refusal> {
-    replay_codes(start, &codes(steps), reaches, tables)
+/// Replays steps from the question's start.
+pub fn replay(question: &Question<'_>, steps: &[Step]) -> Result<Replayed, Refusal> {
+    replay_codes(question, &codes(steps))
 }
 
-/// The window that step codes, whoever wrote them, lead to.
-pub fn replay_codes(start: &[u8], codes: &[u16], reaches: Reaches, tables: &Tables) -> Result<Vec<u8>, Refusal> {
-    let Reaches { dup_max, swap_max, max_len } = reaches;
+/// Replays step codes, whoever wrote them.
+pub fn replay_codes(question: &Question<'_>, codes: &[u16]) -> Result<Replayed, Refusal> {
+    let Question { start, reaches: Reaches { dup_max, swap_max, max_len }, tables, .. } = *question;
     let mut result = [0; MAX_LEN];
     let replayed = raw::replay(start, codes, dup_max, swap_max, max_len, &tables.kinds, &mut result);
     match Refusal::from_number(replayed.refusal, replayed.index) {
         Some(refusal) => Err(refusal),
-        None => Ok(result[..replayed.length].to_vec()),
+        None => Ok(Replayed { window: result[..replayed.length].to_vec() }),
     }
 }
 
 /// Marks steps against a ceiling.
-pub fn mark(
-    start: &[u8],
-    goal: &[u8],
-    steps: &[Step],
-    reaches: Reaches,
-    tables: &Tables,
-    ceiling: Cost,
-) -> Result<Mark, Refusal> {
-    mark_codes(start, goal, &codes(steps), reaches, tables, ceiling)
+pub fn mark(question: &Question<'_>, steps: &[Step], ceiling: Cost) -> Result<Marked, Refusal> {
+    mark_codes(question, &codes(steps), ceiling)
 }
 
 /// Marks step codes, whoever wrote them, against a ceiling.
-pub fn mark_codes(
-    start: &[u8],
-    goal: &[u8],
-    codes: &[u16],
-    reaches: Reaches,
-    tables: &Tables,
-    ceiling: Cost,
-) -> Result<Mark, Refusal> {
-    let Reaches { dup_max, swap_max, max_len } = reaches;
+pub fn mark_codes(question: &Question<'_>, codes: &[u16], ceiling: Cost) -> Result<Marked, Refusal> {
+    let Question { start, goal, reaches: Reaches { dup_max, swap_max, max_len }, tables, .. } = *question;
     let Tables { kinds, prices } = tables;
     let marked = raw::mark(start, goal, codes, dup_max, swap_max, max_len, kinds, prices, ceiling.gas, ceiling.bytes);
     match Refusal::from_number(marked.refusal, marked.index) {
         Some(refusal) => Err(refusal),
-        None => Ok(match marked.mark {
-            0 => Mark::Pass,
-            1 => Mark::Elsewhere,
-            2 => Mark::TooDear,
-            other => panic!("no mark has the number {other}"),
-        }),
+        None => Ok(Marked { mark: Mark::from_number(marked.mark) }),
     }
 }
 
@@ -204,17 +228,17 @@ pub fn pack(window: &[u8]) -> Result<u128, Refusal> {
     }
 }
 
-/// The Swaps that turn start into goal.
-pub fn star_swap(start: &[u8], goal: &[u8], swap_max: usize) -> Result<Vec<Step>, Refusal> {
+/// The Swaps that turn the question's start into its goal.
+pub fn star_swap(question: &Question<'_>) -> Result<Vec<Step>, Refusal> {
     let mut steps = [0; MIN_STEPS];
-    let built = raw::star_swap(start, goal, swap_max, &mut steps);
+    let built = raw::star_swap(question.start, question.goal, question.reaches.swap_max, &mut steps);
     built_steps(built, &steps)
 }
 
-/// The steps that drop the keys under the prefix goal of start.
-pub fn delete_tail(start: &[u8], goal: &[u8], swap_max: usize) -> Result<Vec<Step>, Refusal> {
+/// The steps that drop the keys under the question's goal, a prefix of its start.
+pub fn delete_tail(question: &Question<'_>) -> Result<Vec<Step>, Refusal> {
     let mut steps = [0; MIN_STEPS];
-    let built = raw::delete_tail(start, goal, swap_max, &mut steps);
+    let built = raw::delete_tail(question.start, question.goal, question.reaches.swap_max, &mut steps);
     built_steps(built, &steps)
 }
 

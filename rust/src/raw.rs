@@ -1,4 +1,4 @@
-//! The C functions on slices and numbers. Safe: a Rust slice is never null, and `&mut` slices overlap nothing.
+//! The proved functions on slices and numbers. Safe: a Rust slice is never null, and `&mut` slices overlap nothing.
 
 use crate::sys::{self, NimskerfAnswer, NimskerfBuilt, NimskerfMarked, NimskerfPacked, NimskerfReplayed};
 
@@ -33,7 +33,7 @@ pub fn plan(
 ) -> NimskerfAnswer {
     // SAFETY: every pointer comes from a slice with its own length; the four `&mut` slices overlap nothing.
     unsafe {
-        sys::nimskerf_plan(
+        sys::nimskerf_proved_plan(
             start.as_ptr(),
             start.len(),
             goal.as_ptr(),
@@ -71,7 +71,7 @@ pub fn replay(
 ) -> NimskerfReplayed {
     // SAFETY: every pointer comes from a slice with its own length; `result` overlaps nothing.
     unsafe {
-        sys::nimskerf_replay(
+        sys::nimskerf_proved_replay(
             start.as_ptr(),
             start.len(),
             steps.as_ptr(),
@@ -102,7 +102,7 @@ pub fn mark(
 ) -> NimskerfMarked {
     // SAFETY: every pointer comes from a slice with its own length; nothing is written.
     unsafe {
-        sys::nimskerf_mark(
+        sys::nimskerf_proved_mark(
             start.as_ptr(),
             start.len(),
             goal.as_ptr(),
@@ -124,13 +124,13 @@ pub fn mark(
 
 pub fn pack(ids: &[u8]) -> NimskerfPacked {
     // SAFETY: the pointer comes from a slice with its own length; nothing is written.
-    unsafe { sys::nimskerf_pack(ids.as_ptr(), ids.len()) }
+    unsafe { sys::nimskerf_proved_pack(ids.as_ptr(), ids.len()) }
 }
 
 pub fn star_swap(start: &[u8], goal: &[u8], swap_max: usize, steps: &mut [u16]) -> NimskerfBuilt {
     // SAFETY: every pointer comes from a slice with its own length; `steps` overlaps nothing.
     unsafe {
-        sys::nimskerf_star_swap(
+        sys::nimskerf_proved_star_swap(
             start.as_ptr(),
             start.len(),
             goal.as_ptr(),
@@ -145,7 +145,7 @@ pub fn star_swap(start: &[u8], goal: &[u8], swap_max: usize, steps: &mut [u16]) 
 pub fn delete_tail(start: &[u8], goal: &[u8], swap_max: usize, steps: &mut [u16]) -> NimskerfBuilt {
     // SAFETY: every pointer comes from a slice with its own length; `steps` overlaps nothing.
     unsafe {
-        sys::nimskerf_delete_tail(
+        sys::nimskerf_proved_delete_tail(
             start.as_ptr(),
             start.len(),
             goal.as_ptr(),

@@ -1,9 +1,14 @@
 //! What a question and its answer are made of.
 
-use std::fmt;
+use crate::sys;
+use std::{
+    ffi::{CStr, c_char},
+    fmt,
+};
 
 /// Gas and bytes; compared by gas, then bytes.
 #[derive(Clone, Copy, Debug, Default, PartialEq, Eq, PartialOrd, Ord, Hash)]
+#[non_exhaustive]
 pub struct Cost {
     pub gas: u32,
     pub bytes: u32,
@@ -80,6 +85,13 @@ pub struct Reaches {
     pub max_len: usize,
 }
 
+/// The greatest.
+impl Default for Reaches {
+    fn default() -> Self {
+        Self { dup_max: 16, swap_max: 17, max_len: 21 }
+    }
+}
+
 /// How much a planning may do, 0 to 65,536 each.
 #[derive(Clone, Copy, Debug, PartialEq, Eq)]
 pub struct Allowances {
@@ -89,6 +101,13 @@ pub struct Allowances {
     pub states_without: usize,
     /// States and open entries that may be held with a plan in hand.
     pub states_with: usize,
+}
+
+/// A thousand each.
+impl Default for Allowances {
+    fn default() -> Self {
+        Self { max_expansions: 1000, states_without: 1000, states_with: 1000 }
+    }
 }
 
 /// What a key stands for.
@@ -153,8 +172,15 @@ impl Tables {
     }
 }
 
+/// The library's sentence for a number.
+fn sentence(text: unsafe extern "C" fn(u32) -> *const c_char, number: u32) -> &'static str {
+    // SAFETY: a sentence is a constant of the library, ended by a zero byte.
+    unsafe { CStr::from_ptr(text(number)) }.to_str().expect("sentences are plain text")
+}
+
 /// Why a call is refused. The lowest number that applies is given.
 #[derive(Clone, Copy, Debug, PartialEq, Eq, Hash)]
+#[non_exhaustive]
 pub enum Refusal {
     /// 1: `dup_max` over 16 or `swap_max` over 17.
     Reach,
@@ -218,19 +244,11 @@ impl Refusal {
 
 impl fmt::Display for Refusal {
     fn fmt(&self, f: &mut fmt::Formatter<'_>) -> fmt::Result {
-        let word = match self {
-            Refusal::Reach => "reach",
-            Refusal::Window => "window",
-            Refusal::Allowance => "allowance",
-            Refusal::Table => "table",
-            Refusal::Key => "key",
-            Refusal::Length => "length",
-            Refusal::Short => "short",
-            Refusal::Step(index) => return write!(f, "refused 8: step {index}"),
-            Refusal::Unroutable => "unroutable",
-            Refusal::NotATail => "not a tail",
-        };
-        write!(f, "refused {}: {word}", self.number())
+        write!(f, "refused {}: {}", self.number(), sentence(sys::nimskerf_refusal_text, self.number()))?;
+        match self {
+            Refusal::Step(index) => write!(f, " Its index is {index}."),
+            _ => Ok(()),
+        }
     }
 }
 
@@ -238,15 +256,16 @@ impl std::error::Error for Refusal {}
 
 /// Where a plan comes from.
 #[derive(Clone, Copy, Debug, PartialEq, Eq, Hash)]
+#[non_exhaustive]
 pub enum Origin {
     /// 0: start equals goal, nothing to do.
-    None,
-    /// 1
-    DeleteTail,
-    /// 2
-    DupAndStar,
-    /// 3
-    Search,
+    None = 0,
+    /// 1: the builder delete-tail.
+    DeleteTail = 1,
+    /// 2: the builder dup-and-star.
+    DupAndStar = 2,
+    /// 3: the search.
+    Search = 3,
 }
 
 impl Origin {
@@ -259,23 +278,34 @@ impl Origin {
             _ => panic!("no origin has the number {number}"),
         }
     }
+
+    pub const fn number(self) -> u32 {
+        self as u32
+    }
+}
+
+impl fmt::Display for Origin {
+    fn fmt(&self, f: &mut fmt::Formatter<'_>) -> fmt::Result {
+        f.write_str(sentence(sys::nimskerf_origin_text, self.number()))
+    }
 }
 
 /// How a planning ended.
 #[derive(Clone, Copy, Debug, PartialEq, Eq, Hash)]
+#[non_exhaustive]
 pub enum Ending {
     /// 0: start equals goal.
-    Equal,
+    Equal = 0,
     /// 1: `max_expansions` is 0.
-    NoSearch,
+    NoSearch = 1,
     /// 2: the open list is empty.
-    Drained,
+    Drained = 2,
     /// 3: nothing left can improve on the bound.
-    CutOff,
+    CutOff = 3,
     /// 4: nodes or open entries over the state allowance.
-    States,
+    States = 4,
     /// 5: `max_expansions` states are expanded.
-    Expansions,
+    Expansions = 5,
 }
 
 impl Ending {
@@ -291,9 +321,19 @@ impl Ending {
         }
     }
 
+    pub const fn number(self) -> u32 {
+        self as u32
+    }
+
     /// By itself: higher allowances keep the answer, every field and step.
     pub const fn by_itself(self) -> bool {
         matches!(self, Ending::Equal | Ending::Drained | Ending::CutOff)
+    }
+}
+
+impl fmt::Display for Ending {
+    fn fmt(&self, f: &mut fmt::Formatter<'_>) -> fmt::Result {
+        f.write_str(sentence(sys::nimskerf_ending_text, self.number()))
     }
 }
 
@@ -301,9 +341,30 @@ impl Ending {
 #[derive(Clone, Copy, Debug, PartialEq, Eq, Hash)]
 pub enum Mark {
     /// 0: reaches the goal at no more than the ceiling.
-    Pass,
+    Pass = 0,
     /// 1: ends elsewhere.
-    Elsewhere,
+    Elsewhere = 1,
     /// 2: reaches the goal above the ceiling.
-    TooDear,
+    TooDear = 2,
+}
+
+impl Mark {
+    pub(crate) fn from_number(number: u32) -> Self {
+        match number {
+            0 => Mark::Pass,
+            1 => Mark::Elsewhere,
+            2 => Mark::TooDear,
+            _ => panic!("no mark has the number {number}"),
+        }
+    }
+
+    pub const fn number(self) -> u32 {
+        self as u32
+    }
+}
+
+impl fmt::Display for Mark {
+    fn fmt(&self, f: &mut fmt::Formatter<'_>) -> fmt::Result {
+        f.write_str(sentence(sys::nimskerf_mark_text, self.number()))
+    }
 }

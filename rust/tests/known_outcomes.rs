@@ -1,20 +1,20 @@
-//! Document 01's questions with known outcomes, through the typed interface.
+//! Document 01's questions with known outcomes, and plans of the search, through the typed interface.
 
 use nimskerf::{
-    Allowances, Cost, Ending, Lists, Mark, Origin, Planner, Question, Reaches, Refusal, Step, Tables, delete_tail,
-    mark, mark_codes, pack, plan_in, replay, replay_codes, star_swap,
+    Allowances, Answer, Cost, Ending, Kind, Lists, Mark, Origin, Plan, Planner, PriceList, Question, Reaches, Refusal,
+    Step, Tables, delete_tail, mark, mark_codes, pack, plan_in, replay, replay_codes, star_swap,
 };
+use std::thread;
 
 const WIDE: Reaches = Reaches { dup_max: 16, swap_max: 17, max_len: 21 };
 const NO_SEARCH: Allowances = Allowances { max_expansions: 0, states_without: 1000, states_with: 1000 };
 const SEARCH: Allowances = Allowances { max_expansions: 1000, ..NO_SEARCH };
 
-fn ask(start: &[u8], goal: &[u8], reaches: Reaches, allowances: Allowances) -> Result<nimskerf::Answer, Refusal> {
-    let tables = Tables::desk();
-    Planner::new().plan(&Question { start, goal, reaches, allowances, tables: &tables })
+fn ask(start: &[u8], goal: &[u8], reaches: Reaches, allowances: Allowances) -> Result<Answer, Refusal> {
+    Planner::new().plan(&Question::new(start, goal).with_reaches(reaches).with_allowances(allowances))
 }
 
-fn plan_of(start: &[u8], goal: &[u8], reaches: Reaches) -> Option<nimskerf::Plan> {
+fn plan_of(start: &[u8], goal: &[u8], reaches: Reaches) -> Option<Plan> {
     ask(start, goal, reaches, NO_SEARCH).expect("accepted").plan
 }
 
@@ -69,18 +69,107 @@ fn reaches_and_lengths() {
 
 #[test]
 fn a_search_improves_on_the_builders() {
-    let tables = Tables::desk();
-    let answer = ask(&[0, 1, 2, 3], &[5, 2, 0, 33, 5], WIDE, SEARCH).expect("accepted");
+    let question = Question::new(&[0, 2], &[0, 0, 3]);
+    let built = plan_of(question.start, question.goal, WIDE).expect("a builder's plan");
+    assert_eq!((built.cost, built.origin), (Cost::new(17, 7), Origin::DupAndStar));
+
+    let answer = Planner::new().plan(&question).expect("accepted");
+    assert_eq!((answer.ending, answer.expansions), (Ending::CutOff, 24));
     let plan = answer.plan.expect("a plan");
-    assert!(plan.cost <= plan.ceiling);
-    assert_eq!(replay(&[0, 1, 2, 3], &plan.steps, WIDE, &tables), Ok(vec![5, 2, 0, 33, 5]));
-    assert_eq!(mark(&[0, 1, 2, 3], &[5, 2, 0, 33, 5], &plan.steps, WIDE, &tables, plan.ceiling), Ok(Mark::Pass));
+    assert_eq!(plan.steps, [Step::LoadVal(3), Step::Swap(2), Step::Pop, Step::Dup(0)]);
+    assert_eq!((plan.cost, plan.ceiling, plan.origin), (Cost::new(14, 6), Cost::new(14, 6), Origin::Search));
+    assert!(plan.ceiling < built.ceiling);
+    assert_eq!(replay(&question, &plan.steps).expect("allowed").window, question.goal);
+    assert_eq!(mark(&question, &plan.steps, plan.ceiling).expect("allowed").mark, Mark::Pass);
+    assert_eq!(mark(&question, &built.steps, plan.ceiling).expect("allowed").mark, Mark::TooDear);
+}
+
+/// Kinds and prices that no two places share, for a search without a plan in hand.
+fn uneven_tables() -> Tables {
+    let kinds = std::array::from_fn(|key| match key {
+        2 => Kind::Zero,
+        key if key < 40 && key % 2 == 1 => Kind::Immediate,
+        _ => Kind::Value,
+    });
+    let price = |place: usize| {
+        let number = |i: usize| 2 + i as u32 * 7 % 13;
+        Cost::new(number(2 * place), number(2 * place + 1))
+    };
+    let list = PriceList {
+        pop: price(0),
+        dup: std::array::from_fn(|i| price(1 + i)),
+        swap: std::array::from_fn(|i| price(17 + i)),
+        key: std::array::from_fn(|i| price(34 + i)),
+    };
+    Tables::new(&kinds, &list)
+}
+
+#[test]
+fn a_plan_of_the_search_alone() {
+    let tables = uneven_tables();
+    let question = Question::new(&[6, 6, 3, 0, 2, 6, 2], &[3, 5, 2]).with_tables(&tables);
+    let built = Planner::new().plan(&question.with_allowances(NO_SEARCH)).expect("accepted");
+    assert_eq!((built.plan, built.ending), (None, Ending::NoSearch));
+
+    let answer = Planner::new().plan(&question).expect("accepted");
+    assert_eq!((answer.ending, answer.expansions), (Ending::Drained, 470));
+    let plan = answer.plan.expect("a plan");
+    assert_eq!((plan.cost, plan.ceiling, plan.origin), (Cost::new(27, 70), Cost::new(27, 70), Origin::Search));
+    assert_eq!(plan.steps[5..], [Step::Pop, Step::PushImm(5), Step::PushImm(3)]);
+}
+
+#[test]
+fn allowances_end_a_search() {
+    let tables = uneven_tables();
+    let question = Question::new(&[6, 6, 3, 0, 2, 6, 2], &[3, 5, 2]).with_tables(&tables);
+    let ended = |allowances| {
+        let answer = Planner::new().plan(&question.with_allowances(allowances)).expect("accepted");
+        (answer.ending, answer.expansions)
+    };
+    assert_eq!(ended(Allowances { max_expansions: 300, ..SEARCH }), (Ending::Expansions, 300));
+    assert_eq!(ended(Allowances { states_without: 100, ..SEARCH }), (Ending::States, 13));
+    assert_eq!(ended(Allowances { states_with: 40, ..SEARCH }), (Ending::Drained, 470));
+}
+
+/// Questions of several sizes, one refused.
+fn questions() -> Vec<Question<'static>> {
+    let small = Question::new(&[0, 2], &[0, 0, 3]);
+    vec![
+        small,
+        Question::new(&[3, 2], &[1, 1, 33, 0]).with_allowances(Allowances { states_with: 30_000, ..SEARCH }),
+        small.with_reaches(Reaches { dup_max: 0, ..WIDE }),
+        Question::new(&[64], &[]),
+        Question::new(&[2, 0], &[3, 33, 0, 3]).with_allowances(Allowances { max_expansions: 20, ..SEARCH }),
+        Question::new(&[0, 1], &[]).with_allowances(NO_SEARCH),
+        small,
+    ]
+}
+
+#[test]
+fn a_planner_is_used_again() {
+    let mut used = Planner::with_allowances(&NO_SEARCH);
+    for question in questions() {
+        assert_eq!(used.plan(&question), Planner::new().plan(&question), "{question:?}");
+    }
+}
+
+#[test]
+fn threads_have_planners_of_their_own() {
+    let answers = || {
+        let mut planner = Planner::new();
+        questions().iter().map(|question| planner.plan(question)).collect::<Vec<_>>()
+    };
+    let alone = answers();
+    thread::scope(|scope| {
+        for thread in (0..4).map(|_| scope.spawn(answers)).collect::<Vec<_>>() {
+            assert_eq!(thread.join().expect("no panic"), alone);
+        }
+    });
 }
 
 #[test]
 fn lists_that_the_caller_lends() {
-    let tables = Tables::desk();
-    let question = Question { start: &[0, 1], goal: &[], reaches: WIDE, allowances: NO_SEARCH, tables: &tables };
+    let question = Question::new(&[0, 1], &[]).with_allowances(NO_SEARCH);
     let (mut steps, mut nodes) = ([9u16; 128], vec![7u64; 1050 * 8]);
     let (mut heads, mut open) = (vec![7u64; 1050], vec![7u64; 1050 * 4]);
     let lists = Lists { steps: &mut steps, nodes: &mut nodes, heads: &mut heads, open: &mut open };
@@ -94,11 +183,14 @@ fn lists_that_the_caller_lends() {
 
 #[test]
 fn star_swap_and_delete_tail() {
-    assert_eq!(star_swap(&[0, 1, 2], &[0, 2, 1], 17), Ok(vec![Step::Swap(1), Step::Swap(2), Step::Swap(1)]));
-    assert_eq!(star_swap(&[0, 1, 2], &[1, 2, 0], 17), Ok(vec![Step::Swap(2), Step::Swap(1)]));
-    assert_eq!(star_swap(&[0, 1, 2], &[0, 2, 1], 2), Err(Refusal::Unroutable));
-    assert_eq!(delete_tail(&[0, 1, 2], &[0, 1], 17), Ok(vec![Step::Swap(2), Step::Pop, Step::Swap(1)]));
-    assert_eq!(delete_tail(&[0, 1], &[0, 1], 17), Err(Refusal::NotATail));
+    let swaps = Question::new(&[0, 1, 2], &[0, 2, 1]);
+    assert_eq!(star_swap(&swaps), Ok(vec![Step::Swap(1), Step::Swap(2), Step::Swap(1)]));
+    assert_eq!(star_swap(&Question::new(&[0, 1, 2], &[1, 2, 0])), Ok(vec![Step::Swap(2), Step::Swap(1)]));
+    assert_eq!(star_swap(&swaps.with_reaches(Reaches { swap_max: 2, ..WIDE })), Err(Refusal::Unroutable));
+    let tail = Question::new(&[0, 1, 2], &[0, 1]);
+    assert_eq!(delete_tail(&tail), Ok(vec![Step::Swap(2), Step::Pop, Step::Swap(1)]));
+    assert_eq!(delete_tail(&tail.with_reaches(Reaches { swap_max: 2, ..WIDE })), Err(Refusal::NotATail));
+    assert_eq!(delete_tail(&Question::new(&[0, 1], &[0, 1])), Err(Refusal::NotATail));
 }
 
 #[test]
@@ -112,17 +204,18 @@ fn packing() {
 
 #[test]
 fn replay_and_marking() {
-    let tables = Tables::desk();
-    assert_eq!(replay(&[], &[Step::Pop], WIDE, &tables), Err(Refusal::Step(0)));
-    assert_eq!(replay(&[1], &[Step::Dup(0), Step::PushImm(1)], WIDE, &tables), Err(Refusal::Step(1)));
-    assert_eq!(replay_codes(&[1], &[1280], WIDE, &tables), Err(Refusal::Step(0)));
+    let question = Question::new(&[1], &[32, 1, 1]);
+    assert_eq!(replay(&Question::new(&[], &[]), &[Step::Pop]), Err(Refusal::Step(0)));
+    assert_eq!(replay(&question, &[Step::Dup(0), Step::PushImm(1)]), Err(Refusal::Step(1)));
+    assert_eq!(replay_codes(&question, &[1280]), Err(Refusal::Step(0)));
     let steps = [Step::Dup(0), Step::PushImm(32)];
-    assert_eq!(replay(&[1], &steps, WIDE, &tables), Ok(vec![32, 1, 1]));
-    assert_eq!(mark(&[1], &[32, 1, 1], &steps, WIDE, &tables, Cost::new(5, 2)), Ok(Mark::Pass));
-    assert_eq!(mark(&[1], &[32, 1, 1], &steps, WIDE, &tables, Cost::new(5, 1)), Ok(Mark::TooDear));
-    assert_eq!(mark(&[1], &[32, 1], &steps, WIDE, &tables, Cost::new(5, 2)), Ok(Mark::Elsewhere));
+    assert_eq!(replay(&question, &steps).expect("allowed").window, [32, 1, 1]);
+    let marked = |question: &Question, ceiling| mark(question, &steps, ceiling).expect("allowed").mark;
+    assert_eq!(marked(&question, Cost::new(5, 2)), Mark::Pass);
+    assert_eq!(marked(&question, Cost::new(5, 1)), Mark::TooDear);
+    assert_eq!(marked(&Question::new(&[1], &[32, 1]), Cost::new(5, 2)), Mark::Elsewhere);
     let many = vec![0; 65_537];
-    assert_eq!(mark_codes(&[], &[], &many, WIDE, &tables, Cost::default()), Err(Refusal::Allowance));
+    assert_eq!(mark_codes(&question, &many, Cost::default()), Err(Refusal::Allowance));
 }
 
 #[test]
@@ -133,4 +226,44 @@ fn codes_of_steps() {
             None => assert!(code >= 1280 || (1..256).contains(&code)),
         }
     }
+}
+
+#[test]
+fn numbers_and_sentences() {
+    assert_eq!(Refusal::Key.to_string(), "refused 5: A key is 64 or more.");
+    assert_eq!(Refusal::Step(3).to_string(), "refused 8: A step is not allowed. Its index is 3.");
+    for number in 1..=10 {
+        let refusal = Refusal::from_number(number, 7).expect("a refusal");
+        assert_eq!(refusal.number(), number);
+        assert!(refusal.to_string().ends_with('.'), "{refusal}");
+    }
+    let origins = [Origin::None, Origin::DeleteTail, Origin::DupAndStar, Origin::Search];
+    assert_eq!(origins.map(Origin::number), [0, 1, 2, 3]);
+    assert_eq!(Origin::Search.to_string(), "The plan was found by the search.");
+    let endings =
+        [Ending::Equal, Ending::NoSearch, Ending::Drained, Ending::CutOff, Ending::States, Ending::Expansions];
+    assert_eq!(endings.map(Ending::number), [0, 1, 2, 3, 4, 5]);
+    assert_eq!(endings.map(Ending::by_itself), [true, false, true, true, false, false]);
+    assert_eq!(Ending::Equal.to_string(), "Start equals goal.");
+    assert_eq!([Mark::Pass, Mark::Elsewhere, Mark::TooDear].map(Mark::number), [0, 1, 2]);
+    assert_eq!(Mark::Elsewhere.to_string(), "The steps end elsewhere.");
+}
+
+/// A question's defaults are the library's.
+#[test]
+fn defaults() {
+    let question = Question::new(&[], &[]);
+    // SAFETY: a call without pointers; the tables that it gives are constant.
+    let (desk, kinds, prices) = unsafe {
+        let desk = nimskerf::sys::nimskerf_question();
+        let kinds = std::slice::from_raw_parts(desk.kinds, desk.kinds_len);
+        (desk, kinds, std::slice::from_raw_parts(desk.prices, desk.prices_len))
+    };
+    let Reaches { dup_max, swap_max, max_len } = question.reaches;
+    let Allowances { max_expansions, states_without, states_with } = question.allowances;
+    assert_eq!((dup_max, swap_max, max_len), (desk.dup_max, desk.swap_max, desk.max_len));
+    assert_eq!((max_expansions, states_without), (desk.max_expansions, desk.states_without));
+    assert_eq!(states_with, desk.states_with);
+    assert_eq!(question.tables.kinds(), kinds);
+    assert_eq!(question.tables.prices(), prices);
 }

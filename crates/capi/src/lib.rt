@@ -1,4 +1,5 @@
 // The public calls as C functions on numbers and slices (a slice passes as a pointer, then a length). Each is one call, with its contract.
+// include/nimskerf_proved.h declares them; c/nimskerf.c, which C programs call, checks pointers and hands on.
 use marking::Marked;
 use planner::Answer;
 use replay::Replayed;
@@ -16,7 +17,7 @@ ghost use Rattle.planner.specs.Refusal.{asked, allowances, lent};
 ghost use Rattle.planner.specs.Planned.{plannedFor, WorkKept};
 
 #[no_mangle]
-pub extern "C" fn nimskerf_plan(
+pub extern "C" fn nimskerf_proved_plan(
     start: &[u8],
     goal: &[u8],
     dup_max: usize,
@@ -57,7 +58,7 @@ pub extern "C" fn nimskerf_plan(
 }
 
 #[no_mangle]
-pub extern "C" fn nimskerf_replay(
+pub extern "C" fn nimskerf_proved_replay(
     start: &[u8],
     steps: &[u16],
     dup_max: usize,
@@ -72,7 +73,7 @@ pub extern "C" fn nimskerf_replay(
 }
 
 #[no_mangle]
-pub extern "C" fn nimskerf_mark(
+pub extern "C" fn nimskerf_proved_mark(
     start: &[u8],
     goal: &[u8],
     steps: &[u16],
@@ -101,14 +102,14 @@ pub extern "C" fn nimskerf_mark(
 }
 
 #[no_mangle]
-pub extern "C" fn nimskerf_pack(ids: &[u8]) -> Packing
+pub extern "C" fn nimskerf_proved_pack(ids: &[u8]) -> Packing
     ensures { λ r. ⌜ r ≡ packing 6 21 (now (ids .entry)) ⌝ }
 {
     window::pack(ids)
 }
 
 #[no_mangle]
-pub extern "C" fn nimskerf_star_swap(
+pub extern "C" fn nimskerf_proved_star_swap(
     start: &[u8],
     goal: &[u8],
     swap_max: usize,
@@ -120,7 +121,7 @@ pub extern "C" fn nimskerf_star_swap(
 }
 
 #[no_mangle]
-pub extern "C" fn nimskerf_delete_tail(
+pub extern "C" fn nimskerf_proved_delete_tail(
     start: &[u8],
     goal: &[u8],
     swap_max: usize,

@@ -1,0 +1,64 @@
+/* Asks a question, plans, and marks a right, a dear and a wrong answer.
+ *
+ *     cc exam.c $(pkg-config --cflags --libs nimskerf) -o exam
+ */
+#include <nimskerf.h>
+
+#include <stdio.h>
+
+static void print_steps(const char *whose, const uint16_t *steps, size_t count)
+{
+    printf("%s:", whose);
+    for (size_t i = 0; i < count; i++) {
+        printf("%s %s", i == 0 ? "" : ",", nimskerf_step_word(steps[i]));
+        if (nimskerf_step_kind(steps[i]) != NIMSKERF_STEP_POP)
+            printf(" %u", (unsigned)nimskerf_step_operand(steps[i]));
+    }
+    printf("\n");
+}
+
+static void mark(const NimskerfQuestion *question, NimskerfCost pass_mark, const uint16_t *answer, size_t count)
+{
+    NimskerfMarked marked = nimskerf_mark(question, answer, count, pass_mark);
+    print_steps("An answer", answer, count);
+    if (marked.refusal != NIMSKERF_REFUSAL_NONE)
+        printf("  Step %zu: %s\n", marked.index, nimskerf_refusal_text(marked.refusal));
+    else
+        printf("  %s\n", nimskerf_mark_text(marked.mark));
+}
+
+int main(void)
+{
+    static const uint8_t start[] = {0, 1, 2}, goal[] = {0};
+    static uint16_t steps[NIMSKERF_STEPS_LEN(NIMSKERF_DEFAULT_EXPANSIONS)];
+    static uint64_t nodes[NIMSKERF_NODES_LEN(NIMSKERF_DEFAULT_STATES)];
+    static uint64_t heads[NIMSKERF_HEADS_LEN(NIMSKERF_DEFAULT_STATES)];
+    static uint64_t open[NIMSKERF_OPEN_LEN(NIMSKERF_DEFAULT_STATES)];
+#define LIST(list) list, sizeof list / sizeof *list
+    const NimskerfLists lists = {LIST(steps), LIST(nodes), LIST(heads), LIST(open)};
+
+    NimskerfQuestion question = nimskerf_question();
+    question.start = start;
+    question.start_len = sizeof start;
+    question.goal = goal;
+    question.goal_len = sizeof goal;
+
+    NimskerfAnswer answer = nimskerf_plan(&question, &lists);
+    if (answer.refusal != NIMSKERF_REFUSAL_NONE || !answer.found) {
+        printf("No plan: %s\n", nimskerf_refusal_text(answer.refusal));
+        return 1;
+    }
+    print_steps("The plan", steps, answer.step_count);
+    printf("  %s\n  %s\n", nimskerf_origin_text(answer.origin), nimskerf_ending_text(answer.ending));
+    printf("The pass mark: %u gas, %u bytes\n", (unsigned)answer.ceiling.gas, (unsigned)answer.ceiling.bytes);
+
+    const uint16_t pop = nimskerf_step(NIMSKERF_STEP_POP, 0), swap2 = nimskerf_step(NIMSKERF_STEP_SWAP, 2);
+    const uint16_t load0 = nimskerf_step(NIMSKERF_STEP_LOAD, 0), dup9 = nimskerf_step(NIMSKERF_STEP_DUP, 9);
+    const uint16_t right[] = {swap2, pop, pop}, dear[] = {pop, pop, pop, load0}, wrong[] = {pop, pop};
+    const uint16_t not_allowed[] = {pop, dup9};
+    mark(&question, answer.ceiling, LIST(right));
+    mark(&question, answer.ceiling, LIST(dear));
+    mark(&question, answer.ceiling, LIST(wrong));
+    mark(&question, answer.ceiling, LIST(not_allowed));
+    return 0;
+}

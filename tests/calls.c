@@ -1,0 +1,412 @@
+/* Calls every function of both headers with distinct values in every place and prints what comes back, a line each;
+ * then the layout of every struct, then every constant. C and C++ must print tests/calls.txt, and so must Rust
+ * (rust/tests/declarations.rs) up to the constants. */
+#include "nimskerf.h"
+#include "nimskerf_proved.h"
+
+#include <inttypes.h>
+#include <stdio.h>
+#include <string.h>
+
+enum { STATES = 471, ENTRIES = STATES + NIMSKERF_SPARE_ENTRIES, EXPANSIONS = 480, ROOM = ENTRIES * 8 + 8 };
+
+/* Each list has room beyond its length, which no call may touch. */
+static uint16_t steps[ROOM];
+static uint64_t nodes[ROOM], heads[ROOM], open_list[ROOM];
+static uint8_t result[64], kinds[64];
+static uint32_t prices[NIMSKERF_PRICES_LEN];
+
+static const uint8_t START[64] = {6, 6, 3, 0, 2, 6, 2};
+static const uint8_t GOAL[64] = {3, 5, 2};
+static const uint8_t FIRST[64] = {0, 1, 2, 3, 4};
+static const uint8_t TURNED[64] = {4, 2, 0, 1, 3};
+
+static void fill(void)
+{
+    memset(steps, 0xab, sizeof steps);
+    memset(nodes, 0xab, sizeof nodes);
+    memset(heads, 0xab, sizeof heads);
+    memset(open_list, 0xab, sizeof open_list);
+    memset(result, 0xab, sizeof result);
+}
+
+/* How many bytes at the end of a list are as `fill` left them. */
+static size_t untouched(const void *list, size_t bytes)
+{
+    const unsigned char *at = (const unsigned char *)list;
+    size_t count = 0;
+    while (count < bytes && at[bytes - 1 - count] == 0xab)
+        count++;
+    return count;
+}
+
+static int kept(const void *list, size_t entry, size_t room, size_t used)
+{
+    return untouched(list, room * entry) >= (room - used) * entry;
+}
+
+static NimskerfQuestion question_of(const uint8_t *start, size_t start_len, const uint8_t *goal, size_t goal_len)
+{
+    NimskerfQuestion question = nimskerf_question();
+    question.start = start;
+    question.start_len = start_len;
+    question.goal = goal;
+    question.goal_len = goal_len;
+    return question;
+}
+
+static NimskerfLists lists_of(void)
+{
+    NimskerfLists lists;
+    lists.steps = steps;
+    lists.steps_len = EXPANSIONS;
+    lists.nodes = nodes;
+    lists.nodes_len = ENTRIES * 8;
+    lists.heads = heads;
+    lists.heads_len = ENTRIES;
+    lists.open = open_list;
+    lists.open_len = ENTRIES * 4;
+    return lists;
+}
+
+static void print_steps(size_t count)
+{
+    printf(" steps");
+    for (size_t i = 0; i < count; i++)
+        printf(" %u", (unsigned)steps[i]);
+    printf(" then %s\n", kept(steps, 2, ROOM, count) ? "untouched" : "TOUCHED");
+}
+
+static void print_answer(const char *name, const char *through, NimskerfAnswer a)
+{
+    printf(
+        "plan, %s, %s: refusal %" PRIu32 " found %" PRIu32 " step_count %zu plan %" PRIu32 "/%" PRIu32
+        " ceiling %" PRIu32 "/%" PRIu32 " origin %" PRIu32 " ending %" PRIu32 " expansions %zu lists %s",
+        name, through, a.refusal, a.found, a.step_count, a.plan.gas, a.plan.bytes, a.ceiling.gas, a.ceiling.bytes,
+        a.origin, a.ending, a.expansions,
+        kept(nodes, 8, ROOM, ENTRIES * 8) && kept(heads, 8, ROOM, ENTRIES) && kept(open_list, 8, ROOM, ENTRIES * 4)
+            ? "kept"
+            : "OVERRUN");
+    print_steps(a.step_count);
+}
+
+static void plan(const char *name, const NimskerfQuestion *q)
+{
+    NimskerfLists l = lists_of();
+    fill();
+    print_answer(name, "checked", nimskerf_plan(q, &l));
+    fill();
+    print_answer(
+        name, "proved",
+        nimskerf_proved_plan(
+            q->start, q->start_len, q->goal, q->goal_len, q->dup_max, q->swap_max, q->max_len, q->max_expansions,
+            q->states_without, q->states_with, q->kinds, q->kinds_len, q->prices, q->prices_len, l.steps, l.steps_len,
+            l.nodes, l.nodes_len, l.heads, l.heads_len, l.open, l.open_len));
+}
+
+static void plans(void)
+{
+    NimskerfQuestion q = question_of(START, 7, GOAL, 3);
+    q.kinds = kinds;
+    q.prices = prices;
+    q.max_expansions = EXPANSIONS;
+    q.states_without = STATES;
+    q.states_with = 40;
+    plan("search", &q);
+    q.max_expansions = 300;
+    plan("expansions", &q);
+    q.max_expansions = EXPANSIONS;
+    q.states_without = 100;
+    plan("states", &q);
+
+    q = question_of(FIRST, 3, TURNED + 2, 1);
+    q.max_expansions = 0;
+    q.states_without = 60;
+    q.states_with = 70;
+    plan("builder", &q);
+    q.dup_max = 17;
+    plan("reach", &q);
+    q.dup_max = 16;
+    q.max_len = 22;
+    plan("window", &q);
+
+    q = question_of(FIRST, 5, TURNED, 5);
+    q.max_expansions = 90;
+    q.states_without = 400;
+    q.states_with = 12;
+    plan("plan in hand", &q);
+    q.dup_max = 2;
+    q.swap_max = 5;
+    q.max_len = 6;
+    plan("narrow", &q);
+}
+
+static void print_replayed(const char *name, const char *through, NimskerfReplayed r)
+{
+    printf("replay, %s, %s: refusal %" PRIu32 " index %zu length %zu result", name, through, r.refusal, r.index,
+           r.length);
+    for (size_t i = 0; i < r.length; i++)
+        printf(" %u", (unsigned)result[i]);
+    printf(" then %s\n", kept(result, 1, sizeof result, r.length) ? "untouched" : "TOUCHED");
+}
+
+static void replay(const char *name, const NimskerfQuestion *q, const uint16_t *codes, size_t count)
+{
+    fill();
+    print_replayed(name, "checked", nimskerf_replay(q, codes, count, result, 21));
+    fill();
+    print_replayed(
+        name, "proved",
+        nimskerf_proved_replay(
+            q->start, q->start_len, codes, count, q->dup_max, q->swap_max, q->max_len, q->kinds, q->kinds_len, result,
+            21));
+}
+
+static void print_marked(const char *name, const char *through, NimskerfMarked m)
+{
+    printf("mark, %s, %s: refusal %" PRIu32 " index %zu mark %" PRIu32 "\n", name, through, m.refusal, m.index, m.mark);
+}
+
+static void mark(const char *name, const NimskerfQuestion *q, const uint16_t *codes, size_t count, NimskerfCost ceiling)
+{
+    print_marked(name, "checked", nimskerf_mark(q, codes, count, ceiling));
+    print_marked(
+        name, "proved",
+        nimskerf_proved_mark(
+            q->start, q->start_len, q->goal, q->goal_len, codes, count, q->dup_max, q->swap_max, q->max_len, q->kinds,
+            q->kinds_len, q->prices, q->prices_len, ceiling.gas, ceiling.bytes));
+}
+
+static void replays_and_marks(void)
+{
+    static const uint8_t end[64] = {32, 1, 0, 1};
+    /* dup 1, push 32, dup 2, pop, swap 3, swap 3: 16 gas, 6 bytes. */
+    static const uint16_t codes[8] = {257, 800, 258, 0, 515, 515, 1280};
+    NimskerfQuestion q = question_of(FIRST, 2, end, 4);
+    NimskerfCost ceiling = {16, 7};
+    replay("allowed", &q, codes, 6);
+    replay("not allowed", &q, codes, 7);
+    mark("pass", &q, codes, 6, ceiling);
+    ceiling.bytes = 5;
+    mark("too dear", &q, codes, 6, ceiling);
+    q.goal_len = 3;
+    mark("elsewhere", &q, codes, 6, ceiling);
+    mark("not allowed", &q, codes, 7, ceiling);
+    q.dup_max = 2;
+    replay("dup_max", &q, codes, 6);
+    mark("dup_max", &q, codes, 6, ceiling);
+    q.dup_max = 3;
+    q.swap_max = 4;
+    q.max_len = 5;
+    replay("narrow", &q, codes, 6);
+    mark("narrow", &q, codes, 6, ceiling);
+}
+
+static void print_packed(const char *through, NimskerfPacked p)
+{
+    printf("pack, %s: refusal %" PRIu32 " lo %" PRIu64 " hi %" PRIu64 "\n", through, p.refusal, p.lo, p.hi);
+}
+
+static void packs(void)
+{
+    static const uint8_t window[64] = {1, 2, 3, 4, 5, 6, 7, 8, 9, 10, 11, 12, 13, 14};
+    print_packed("checked", nimskerf_pack(window, 13));
+    print_packed("proved", nimskerf_proved_pack(window, 13));
+}
+
+static void print_built(const char *name, NimskerfBuilt b)
+{
+    printf("%s: refusal %" PRIu32 " count %zu", name, b.refusal, b.count);
+    print_steps(b.count);
+}
+
+static void builders(void)
+{
+    NimskerfQuestion q = question_of(FIRST, 5, TURNED, 5);
+    q.swap_max = 6;
+    fill();
+    print_built("star_swap, checked", nimskerf_star_swap(&q, steps, 128));
+    fill();
+    print_built("star_swap, proved", nimskerf_proved_star_swap(FIRST, 5, TURNED, 5, 6, steps, 128));
+    q.goal = FIRST;
+    q.goal_len = 3;
+    fill();
+    print_built("delete_tail, checked", nimskerf_delete_tail(&q, steps, 128));
+    fill();
+    print_built("delete_tail, proved", nimskerf_proved_delete_tail(FIRST, 5, FIRST, 3, 6, steps, 128));
+}
+
+static void desk(void)
+{
+    NimskerfQuestion q = nimskerf_question();
+    printf(
+        "question: start %zu goal %zu dup_max %zu swap_max %zu max_len %zu max_expansions %zu states_without %zu "
+        "states_with %zu kinds %zu prices %zu\n",
+        q.start_len, q.goal_len, q.dup_max, q.swap_max, q.max_len, q.max_expansions, q.states_without, q.states_with,
+        q.kinds_len, q.prices_len);
+    printf("question, kinds:");
+    for (size_t i = 0; i < q.kinds_len; i++)
+        printf(" %u", (unsigned)q.kinds[i]);
+    printf("\nquestion, prices:");
+    for (size_t i = 0; i + 1 < q.prices_len; i += 2)
+        printf(" %" PRIu32 "/%" PRIu32, q.prices[i], q.prices[i + 1]);
+    printf("\n");
+}
+
+static void codes_and_texts(void)
+{
+    printf(
+        "step: %u %u %u %u\n", (unsigned)nimskerf_step(2, 17), (unsigned)nimskerf_step(4, 63),
+        (unsigned)nimskerf_step(256, 1), (unsigned)nimskerf_step(1, 256));
+    printf("step_kind: %" PRIu32 " step_operand: %" PRIu32 "\n", nimskerf_step_kind(1085), nimskerf_step_operand(1085));
+    for (unsigned code = 0; code <= 1280; code += 256)
+        printf("step_word %u: %s\n", code, nimskerf_step_word((uint16_t)code));
+    printf("step_word 1: %s\n", nimskerf_step_word(1));
+    for (uint32_t n = 0; n <= 11; n++)
+        printf("refusal_text %" PRIu32 ": %s\n", n, nimskerf_refusal_text(n));
+    for (uint32_t n = 0; n <= 4; n++)
+        printf("origin_text %" PRIu32 ": %s\n", n, nimskerf_origin_text(n));
+    for (uint32_t n = 0; n <= 6; n++)
+        printf("ending_text %" PRIu32 ": %s\n", n, nimskerf_ending_text(n));
+    for (uint32_t n = 0; n <= 3; n++)
+        printf("mark_text %" PRIu32 ": %s\n", n, nimskerf_mark_text(n));
+    printf("version: %s\n", nimskerf_version());
+}
+
+#define SIZE(type) printf(#type ": %zu\n", sizeof(type))
+#define PLACE(type, field) printf(#type "." #field ": %zu\n", offsetof(type, field))
+
+static void layouts(void)
+{
+    SIZE(NimskerfCost);
+    PLACE(NimskerfCost, gas);
+    PLACE(NimskerfCost, bytes);
+    SIZE(NimskerfQuestion);
+    PLACE(NimskerfQuestion, start);
+    PLACE(NimskerfQuestion, start_len);
+    PLACE(NimskerfQuestion, goal);
+    PLACE(NimskerfQuestion, goal_len);
+    PLACE(NimskerfQuestion, dup_max);
+    PLACE(NimskerfQuestion, swap_max);
+    PLACE(NimskerfQuestion, max_len);
+    PLACE(NimskerfQuestion, max_expansions);
+    PLACE(NimskerfQuestion, states_without);
+    PLACE(NimskerfQuestion, states_with);
+    PLACE(NimskerfQuestion, kinds);
+    PLACE(NimskerfQuestion, kinds_len);
+    PLACE(NimskerfQuestion, prices);
+    PLACE(NimskerfQuestion, prices_len);
+    SIZE(NimskerfLists);
+    PLACE(NimskerfLists, steps);
+    PLACE(NimskerfLists, steps_len);
+    PLACE(NimskerfLists, nodes);
+    PLACE(NimskerfLists, nodes_len);
+    PLACE(NimskerfLists, heads);
+    PLACE(NimskerfLists, heads_len);
+    PLACE(NimskerfLists, open);
+    PLACE(NimskerfLists, open_len);
+    SIZE(NimskerfAnswer);
+    PLACE(NimskerfAnswer, refusal);
+    PLACE(NimskerfAnswer, found);
+    PLACE(NimskerfAnswer, step_count);
+    PLACE(NimskerfAnswer, plan.gas);
+    PLACE(NimskerfAnswer, plan.bytes);
+    PLACE(NimskerfAnswer, ceiling.gas);
+    PLACE(NimskerfAnswer, ceiling.bytes);
+    PLACE(NimskerfAnswer, origin);
+    PLACE(NimskerfAnswer, ending);
+    PLACE(NimskerfAnswer, expansions);
+    SIZE(NimskerfReplayed);
+    PLACE(NimskerfReplayed, refusal);
+    PLACE(NimskerfReplayed, index);
+    PLACE(NimskerfReplayed, length);
+    SIZE(NimskerfMarked);
+    PLACE(NimskerfMarked, refusal);
+    PLACE(NimskerfMarked, index);
+    PLACE(NimskerfMarked, mark);
+    SIZE(NimskerfPacked);
+    PLACE(NimskerfPacked, refusal);
+    PLACE(NimskerfPacked, lo);
+    PLACE(NimskerfPacked, hi);
+    SIZE(NimskerfBuilt);
+    PLACE(NimskerfBuilt, refusal);
+    PLACE(NimskerfBuilt, count);
+}
+
+#define CONSTANT(name) printf(#name ": %d\n", (int)(name))
+
+static void constants(void)
+{
+    CONSTANT(NIMSKERF_DUP_MAX);
+    CONSTANT(NIMSKERF_SWAP_MAX);
+    CONSTANT(NIMSKERF_MAX_LEN);
+    CONSTANT(NIMSKERF_MAX_ALLOWANCE);
+    CONSTANT(NIMSKERF_MAX_STEPS);
+    CONSTANT(NIMSKERF_MAX_PRICE);
+    CONSTANT(NIMSKERF_KEYS);
+    CONSTANT(NIMSKERF_KINDS_LEN);
+    CONSTANT(NIMSKERF_PRICES_LEN);
+    CONSTANT(NIMSKERF_DEFAULT_EXPANSIONS);
+    CONSTANT(NIMSKERF_DEFAULT_STATES);
+    CONSTANT(NIMSKERF_RESULT_LEN);
+    CONSTANT(NIMSKERF_MIN_STEPS_LEN);
+    CONSTANT(NIMSKERF_STEPS_LEN(1000));
+    CONSTANT(NIMSKERF_NODES_LEN(1000));
+    CONSTANT(NIMSKERF_HEADS_LEN(1000));
+    CONSTANT(NIMSKERF_OPEN_LEN(1000));
+    CONSTANT(NIMSKERF_NODE_NUMBERS);
+    CONSTANT(NIMSKERF_HEAD_NUMBERS);
+    CONSTANT(NIMSKERF_OPEN_NUMBERS);
+    CONSTANT(NIMSKERF_SPARE_ENTRIES);
+    CONSTANT(NIMSKERF_KIND_VALUE);
+    CONSTANT(NIMSKERF_KIND_IMMEDIATE);
+    CONSTANT(NIMSKERF_KIND_ZERO);
+    CONSTANT(NIMSKERF_STEP_POP);
+    CONSTANT(NIMSKERF_STEP_DUP);
+    CONSTANT(NIMSKERF_STEP_SWAP);
+    CONSTANT(NIMSKERF_STEP_PUSH);
+    CONSTANT(NIMSKERF_STEP_LOAD);
+    CONSTANT(NIMSKERF_NO_STEP);
+    CONSTANT(NIMSKERF_REFUSAL_NONE);
+    CONSTANT(NIMSKERF_REFUSAL_REACH);
+    CONSTANT(NIMSKERF_REFUSAL_WINDOW);
+    CONSTANT(NIMSKERF_REFUSAL_ALLOWANCE);
+    CONSTANT(NIMSKERF_REFUSAL_TABLE);
+    CONSTANT(NIMSKERF_REFUSAL_KEY);
+    CONSTANT(NIMSKERF_REFUSAL_LENGTH);
+    CONSTANT(NIMSKERF_REFUSAL_SHORT);
+    CONSTANT(NIMSKERF_REFUSAL_STEP);
+    CONSTANT(NIMSKERF_REFUSAL_UNROUTABLE);
+    CONSTANT(NIMSKERF_REFUSAL_NOT_A_TAIL);
+    CONSTANT(NIMSKERF_ORIGIN_NONE);
+    CONSTANT(NIMSKERF_ORIGIN_DELETE_TAIL);
+    CONSTANT(NIMSKERF_ORIGIN_DUP_AND_STAR);
+    CONSTANT(NIMSKERF_ORIGIN_SEARCH);
+    CONSTANT(NIMSKERF_ENDING_EQUAL);
+    CONSTANT(NIMSKERF_ENDING_NO_SEARCH);
+    CONSTANT(NIMSKERF_ENDING_DRAINED);
+    CONSTANT(NIMSKERF_ENDING_CUT_OFF);
+    CONSTANT(NIMSKERF_ENDING_STATES);
+    CONSTANT(NIMSKERF_ENDING_EXPANSIONS);
+    CONSTANT(NIMSKERF_MARK_PASS);
+    CONSTANT(NIMSKERF_MARK_ELSEWHERE);
+    CONSTANT(NIMSKERF_MARK_TOO_DEAR);
+}
+
+int main(void)
+{
+    for (size_t i = 0; i < 64; i++)
+        kinds[i] = i < 40 ? (uint8_t)(i % 2) : 0;
+    kinds[2] = NIMSKERF_KIND_ZERO;
+    for (uint32_t i = 0; i < NIMSKERF_PRICES_LEN; i++)
+        prices[i] = 2 + i * 7 % 13;
+    plans();
+    replays_and_marks();
+    packs();
+    builders();
+    desk();
+    codes_and_texts();
+    layouts();
+    constants();
+    return 0;
+}
