@@ -1,14 +1,14 @@
 //! Times the port and the reference on the same questions, in one run.
 
 use crate::{
+    case::{Case, ENDING, EXPANSIONS, KEY, ORIGIN, SWAP, Tables, limits},
     compare::Sides,
     draw::Random,
-    model::Lengths,
-    question::{KEY, Question, SWAP, Tables, limits},
+    faces::raw_limits,
     reference::{Prepared, Reference},
 };
 use nimskerf::{HEADS_LENT, Lists, NODE_NUMBERS, OPEN_NUMBERS, raw};
-use std::hint::black_box;
+use std::{hint::black_box, sync::Arc};
 
 #[repr(C)]
 struct Timespec {
@@ -82,21 +82,22 @@ impl Work {
         }
     }
 
-    fn ask(&mut self, question: &Question<'_>) {
+    /// Asks by the proved function.
+    fn ask(&mut self, question: &Case) {
         let lists =
             Lists { steps: &mut self.steps, nodes: &mut self.nodes, heads: &mut self.heads, open: &mut self.open };
-        let Question { start, goal, limits, tables } = black_box(question);
-        black_box(raw::plan(start, goal, limits, &tables.kinds, &tables.prices, lists));
+        let Case { start, goal, limits, tables, .. } = black_box(question);
+        black_box(raw::plan(start, goal, &raw_limits(limits), &tables.kinds, &tables.prices, lists));
     }
 }
 
 /// The price lists of the bench.
 struct PriceLists {
-    desk: Tables,
-    dear_swaps: Tables,
-    dear_keys: Tables,
-    flat: Tables,
-    by_place: Tables,
+    desk: Arc<Tables>,
+    dear_swaps: Arc<Tables>,
+    dear_keys: Arc<Tables>,
+    flat: Arc<Tables>,
+    by_place: Arc<Tables>,
 }
 
 impl PriceLists {
@@ -104,12 +105,13 @@ impl PriceLists {
         let desk = Tables::desk();
         let prices = desk.prices.clone();
         let at = |pair: usize| (prices[2 * pair], prices[2 * pair + 1]);
+        let shared = |price: &dyn Fn(usize) -> (u32, u32)| Arc::new(Tables::desk_with(price));
         Self {
-            dear_swaps: Tables::desk_with(|pair| if (SWAP..KEY).contains(&pair) { (8, 1) } else { at(pair) }),
-            dear_keys: Tables::desk_with(|pair| if pair >= KEY { (15, 7) } else { at(pair) }),
-            flat: Tables::desk_with(|_| (1, 1)),
-            by_place: Tables::desk_with(|pair| (2 + (pair * 7 % 5) as u32, 1 + (pair % 3) as u32)),
-            desk,
+            dear_swaps: shared(&|pair| if (SWAP..KEY).contains(&pair) { (8, 1) } else { at(pair) }),
+            dear_keys: shared(&|pair| if pair >= KEY { (15, 7) } else { at(pair) }),
+            flat: shared(&|_| (1, 1)),
+            by_place: shared(&|pair| (2 + (pair * 7 % 5) as u32, 1 + (pair % 3) as u32)),
+            desk: Arc::new(desk),
         }
     }
 }
@@ -163,8 +165,8 @@ const BY_PLACE: &[Row] = &[
     ("zz", [8, 10, 10, 20000, 60000, 60000], &[0, 1, 2, 3, 33], &[1, 33, 0, 40, 2, 0]),
 ];
 
-fn questions(lists: &PriceLists) -> Vec<(&'static str, &'static str, Question<'_>)> {
-    let groups: [(&str, &Tables, &[Row]); 5] = [
+fn questions(lists: &PriceLists) -> Vec<(&'static str, &'static str, Case)> {
+    let groups: [(&str, &Arc<Tables>, &[Row]); 5] = [
         ("desk", &lists.desk, DESK),
         ("dear swaps", &lists.dear_swaps, DEAR_SWAPS),
         ("dear keys", &lists.dear_keys, DEAR_KEYS),
@@ -175,8 +177,7 @@ fn questions(lists: &PriceLists) -> Vec<(&'static str, &'static str, Question<'_
         .into_iter()
         .flat_map(|(prices, tables, rows)| {
             rows.iter().map(move |&(name, numbers, start, goal)| {
-                let question = Question { start: start.to_vec(), goal: goal.to_vec(), limits: limits(numbers), tables };
-                (name, prices, question)
+                (name, prices, Case::plan(limits(numbers), start, goal, tables))
             })
         })
         .collect()
@@ -194,12 +195,11 @@ pub fn run() -> bool {
     let mut logs = Vec::new();
     let mut above = Vec::new();
     for (name, prices, question) in questions(&lists) {
-        let least = Lengths::least(&question);
-        sides.compare(&question, &least, &mut Random::new(3, 0));
+        sides.compare(&question, &mut Random::new(3, 0));
         let mut reference = Reference::default();
-        let (answer, _) = reference.plan(&question);
+        let answer = reference.plan(&question);
         let prepared = Prepared::new(&question);
-        let mut work = Work::new(question.states() + 50, least.steps);
+        let mut work = Work::new(question.states() + 50, question.lent.steps);
         let (port, rust) = least_of(
             || work.ask(&question),
             || {
@@ -213,9 +213,9 @@ pub fn run() -> bool {
         }
         println!(
             "{name:<4} {prices:<11} {:>10} {:>6} {:>7} {:>11.2} {:>13.2} {ratio:>7.3}",
-            answer.expansions,
-            answer.ending,
-            answer.origin,
+            answer.fields[EXPANSIONS],
+            answer.fields[ENDING],
+            answer.fields[ORIGIN],
             port / 1000.0,
             rust / 1000.0
         );
@@ -223,7 +223,7 @@ pub fn run() -> bool {
     let mean = (logs.iter().sum::<f64>() / logs.len() as f64).exp();
     println!("geometric mean of {} ratios: {mean:.3}; above 0.8: {above:?}", logs.len());
     println!("answers that differ: {}", sides.tally.differences);
-    sides.tally.first.iter().for_each(|text| println!("- {text}"));
+    sides.tally.print_differences(3, "differential/run bench, question ");
     sides.tally.differences == 0
 }
 

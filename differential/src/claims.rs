@@ -1,12 +1,12 @@
-//! Demand 3 on pairs of answers of the port, and replay and marking of each plan.
+//! Demand 3 on pairs of answers, each compared with the Rust; replay and marking of each plan.
 
 use crate::{
-    compare::{Tally, over_threads},
+    case::{Answer, CEILING, Call, Case, ENDING, FOUND, PLAN_COST},
+    compare::{Run, Sides},
     draw::{self, Random},
-    lent::{Outcome, lengths},
-    question::Question,
+    port,
 };
-use nimskerf::raw;
+use std::sync::Arc;
 
 /// The larger allowance: the same, a little more, or anything above.
 fn raised(random: &mut Random, allowance: usize) -> usize {
@@ -22,91 +22,80 @@ fn raised(random: &mut Random, allowance: usize) -> usize {
     (allowance + more).min(65_536)
 }
 
-pub fn run(threads: usize, seed: u64, pairs: u64) -> Tally {
-    over_threads(threads, pairs, |sides, index| {
-        let mut random = Random::new(seed, index);
-        let tables = draw::tables(&mut random);
-        let first = draw::question(&mut random, &tables);
+pub fn run(seed: u64, pairs: u64) -> Run {
+    Run::new("claims", seed, pairs, |sides, mut random| {
+        // Other questions than those of `random` with the same seed.
+        random.next();
+        let tables = Arc::new(draw::tables(&mut random));
+        let mut first = draw::question(&mut random, &tables);
         let mut second = first.clone();
-        second.limits.max_expansions = raised(&mut random, first.limits.max_expansions);
-        second.limits.states_without = raised(&mut random, first.limits.states_without);
-        second.limits.states_with = raised(&mut random, first.limits.states_with);
-
-        let mut ask = |question: &Question<'_>| {
-            let lengths = lengths(question, &mut random);
-            sides.lent.ask(question, &lengths, false, &mut random)
+        for allowance in
+            [&mut second.limits.max_expansions, &mut second.limits.states_without, &mut second.limits.states_with]
+        {
+            *allowance = raised(&mut random, *allowance);
+        }
+        let mut ask = |case: &mut Case, sides: &mut Sides| {
+            case.lent = port::lengths(case, &mut random);
+            let answer = sides.compare(case, &mut random).answer;
+            let mut broken = if answer.refusal == 0 { Vec::new() } else { vec!["an accepted question is refused"] };
+            broken.extend(sound(case, &answer, sides, &mut random));
+            (answer, broken)
         };
-        let (one, two) = (ask(&first), ask(&second));
-        let mut broken = claim(&one, &two);
-        broken.extend(sound(&first, &one));
-        broken.extend(sound(&second, &two));
-        sides.tally.count(&first, &one.answer);
-        sides.tally.count(&second, &two.answer);
+        let (one, mut broken) = ask(&mut first, sides);
+        let (two, also_broken) = ask(&mut second, sides);
+        broken.extend(also_broken);
+        broken.extend(claim(&one, &two));
         if !broken.is_empty() {
-            sides.tally.differ(|| format!("{first}\n  and {second}\n  {one:?}\n  {two:?}\n  {}", broken.join("; ")));
+            sides.tally.differ(sides.index, &[&first, &second], || broken.join("; "));
         }
     })
 }
 
 /// Demand 3: what may not happen between two answers of raised allowances.
-fn claim(one: &Outcome, two: &Outcome) -> Vec<&'static str> {
-    let (a, b) = (&one.answer, &two.answer);
+fn claim(one: &Answer, two: &Answer) -> Vec<&'static str> {
+    let found = |answer: &Answer| answer.fields[FOUND] == 1;
     let mut broken = Vec::new();
-    if a.found == 1 && b.found != 1 {
+    if found(one) && !found(two) {
         broken.push("a plan is lost");
     }
-    if a.found == 1 && (b.ceiling_gas, b.ceiling_bytes) > (a.ceiling_gas, a.ceiling_bytes) {
+    if found(one) && two.cost(CEILING) > one.cost(CEILING) {
         broken.push("the ceiling rises");
     }
-    if matches!(a.ending, 0 | 2 | 3) && (a != b || one.steps != two.steps) {
+    if matches!(one.fields[ENDING], 0 | 2 | 3) && one != two {
         broken.push("an answer that ended by itself changes");
     }
     broken
 }
 
 /// What holds of each answer: its plan replays, costs what it says, and passes its own ceiling.
-fn sound(question: &Question<'_>, outcome: &Outcome) -> Vec<&'static str> {
-    let Outcome { answer, steps, faults } = outcome;
-    let mut broken = faults.clone();
-    if answer.refusal != 0 {
-        broken.push("an accepted question is refused");
+fn sound(case: &Case, answer: &Answer, sides: &mut Sides, random: &mut Random) -> Vec<&'static str> {
+    let mut broken = Vec::new();
+    if answer.refusal != 0 || answer.fields[FOUND] == 0 {
         return broken;
     }
-    if answer.found == 0 {
-        return broken;
-    }
-    let (cost, ceiling) = ((answer.plan_gas, answer.plan_bytes), (answer.ceiling_gas, answer.ceiling_bytes));
+    let (cost, ceiling) = (answer.cost(PLAN_COST), answer.cost(CEILING));
     if cost > ceiling {
         broken.push("the plan costs more than its ceiling");
     }
-    let Question { start, goal, limits, tables } = question;
-    let mut result = [0; 21];
-    let replayed =
-        raw::replay(start, steps, limits.dup_max, limits.swap_max, limits.max_len, &tables.kinds, &mut result);
-    if replayed.refusal != 0 || result[..replayed.length] != **goal {
+    let mut of_plan = Case { call: Call::Replay, steps: answer.plan.clone(), ..case.clone() };
+    of_plan.lent = of_plan.least();
+    let replayed = sides.compare(&of_plan, random).answer;
+    if replayed.refusal != 0 || replayed.window != case.goal {
         broken.push("the plan does not replay to the goal");
     }
-    let mark = |(gas, bytes)| {
-        let marked = raw::mark(
-            start,
-            goal,
-            steps,
-            limits.dup_max,
-            limits.swap_max,
-            limits.max_len,
-            &tables.kinds,
-            &tables.prices,
-            gas,
-            bytes,
-        );
-        (marked.refusal, marked.mark)
+    of_plan.call = Call::Mark;
+    of_plan.lent = of_plan.least();
+    let mut mark = |(gas, bytes): (u64, u64)| {
+        of_plan.ceiling = [gas, bytes].map(|part| part.min(u32::MAX.into()) as u32);
+        let marked = sides.compare(&of_plan, random).answer;
+        (marked.refusal, marked.fields[1])
     };
     if mark(ceiling) != (0, 0) || mark(cost) != (0, 0) {
         broken.push("the plan does not pass its ceiling or its cost");
     }
     let below = match cost {
         (0, 0) => return broken,
-        (gas, 0) => (gas - 1, u32::MAX),
+        (gas, 0) => (gas - 1, u32::MAX.into()),
         (gas, bytes) => (gas, bytes - 1),
     };
     if mark(below) != (0, 2) {

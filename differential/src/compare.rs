@@ -1,165 +1,187 @@
-//! One question asked of both sides, and the tally of many.
+//! One case asked of both sides, and runs of many.
 
 use crate::{
+    case::{Answer, Case},
     draw::Random,
-    lent::Lent,
-    model::{Lengths, plan_refusal},
-    question::Question,
+    expect,
+    faces::FACES,
+    port::{Outcome, Port},
+    record::Record,
     reference::Reference,
+    tally::Tally,
 };
-use nimskerf::sys::NimskerfAnswer;
-use std::{fmt, ops::AddAssign, time::Instant};
-
-/// How many differences are kept in full.
-const KEPT: usize = 5;
-
-/// Counts of a run, and its first differences.
-#[derive(Default)]
-pub struct Tally {
-    pub asked: u64,
-    pub refused: [u64; 11],
-    pub endings: [u64; 6],
-    pub origins: [u64; 4],
-    pub not_found: u64,
-    pub expansions: u64,
-    pub longest_plan: usize,
-    /// Plans that cost less than their ceiling.
-    pub below_ceiling: u64,
-    pub large: u64,
-    pub differences: u64,
-    pub first: Vec<String>,
-}
-
-/// Counts a number that has a place; a wrong port may give others.
-fn bump(counts: &mut [u64], number: u32) {
-    if let Some(count) = counts.get_mut(number as usize) {
-        *count += 1;
-    }
-}
-
-impl Tally {
-    pub fn count(&mut self, question: &Question<'_>, answer: &NimskerfAnswer) {
-        self.asked += 1;
-        if answer.refusal != 0 {
-            bump(&mut self.refused, answer.refusal);
-            return;
-        }
-        bump(&mut self.endings, answer.ending);
-        bump(&mut self.origins, answer.origin);
-        self.not_found += u64::from(answer.found == 0);
-        self.expansions += answer.expansions as u64;
-        self.longest_plan = self.longest_plan.max(answer.step_count);
-        self.below_ceiling +=
-            u64::from((answer.plan_gas, answer.plan_bytes) < (answer.ceiling_gas, answer.ceiling_bytes));
-        self.large += u64::from(question.states().max(question.limits.max_expansions) > 3_000);
-    }
-
-    pub fn differ(&mut self, text: impl FnOnce() -> String) {
-        self.differences += 1;
-        if self.first.len() < KEPT {
-            self.first.push(text());
-        }
-    }
-}
-
-impl AddAssign for Tally {
-    fn add_assign(&mut self, other: Self) {
-        let Self { asked, refused, endings, origins, .. } = other;
-        self.asked += asked;
-        self.refused.iter_mut().zip(refused).for_each(|(sum, n)| *sum += n);
-        self.endings.iter_mut().zip(endings).for_each(|(sum, n)| *sum += n);
-        self.origins.iter_mut().zip(origins).for_each(|(sum, n)| *sum += n);
-        self.not_found += other.not_found;
-        self.expansions += other.expansions;
-        self.longest_plan = self.longest_plan.max(other.longest_plan);
-        self.below_ceiling += other.below_ceiling;
-        self.large += other.large;
-        self.differences += other.differences;
-        self.first.extend(other.first);
-        self.first.truncate(KEPT);
-    }
-}
-
-impl fmt::Display for Tally {
-    fn fmt(&self, f: &mut fmt::Formatter<'_>) -> fmt::Result {
-        let accepted: u64 = self.endings.iter().sum();
-        writeln!(f, "questions      {} ({accepted} accepted, {} refused)", self.asked, self.asked - accepted)?;
-        let line =
-            |counts: &[u64]| counts.iter().enumerate().map(|(i, n)| format!("{i}: {n}")).collect::<Vec<_>>().join(", ");
-        writeln!(f, "refusals       {}", line(&self.refused)[3..].split_once(", ").map_or("", |(_, rest)| rest))?;
-        writeln!(f, "endings        {}", line(&self.endings))?;
-        writeln!(f, "origins        {} (of them not found: {})", line(&self.origins), self.not_found)?;
-        writeln!(f, "allowance over 3,000: {}", self.large)?;
-        writeln!(f, "expansions     {}", self.expansions)?;
-        writeln!(f, "longest plan   {} steps; plans below their ceiling: {}", self.longest_plan, self.below_ceiling)?;
-        write!(f, "differences    {}", self.differences)?;
-        for text in &self.first {
-            write!(f, "\n- {text}")?;
-        }
-        Ok(())
-    }
-}
+use std::{
+    sync::atomic::{AtomicU64, Ordering},
+    time::Instant,
+};
 
 /// What one thread needs to ask both sides.
 #[derive(Default)]
 pub struct Sides {
-    pub reference: Reference,
-    pub lent: Lent,
+    reference: Reference,
+    port: Port,
+    /// The item that is asked.
+    pub index: u64,
     pub tally: Tally,
 }
 
 impl Sides {
-    /// Asks both sides and compares every field, every step and the lists.
-    pub fn compare(&mut self, question: &Question<'_>, lengths: &Lengths, random: &mut Random) {
-        let refusal = plan_refusal(question, lengths);
-        let (expected, steps) = if refusal == 0 {
-            self.reference.plan(question)
-        } else {
-            (NimskerfAnswer { refusal, ..NimskerfAnswer::default() }, Vec::new())
-        };
-        let outcome = self.lent.ask(question, lengths, refusal != 0, random);
-        self.tally.count(question, &expected);
-        if outcome.answer != expected || outcome.steps != steps || !outcome.faults.is_empty() {
-            self.tally.differ(|| {
-                format!(
-                    "{question}\n  lists {lengths:?}\n  port      {:?}\n    steps {:?}\n  \
-                     reference {expected:?}\n    steps {steps:?}\n  lists at exit: {}",
-                    outcome.answer,
-                    outcome.steps,
-                    if outcome.faults.is_empty() { "as expected".into() } else { outcome.faults.join("; ") },
-                )
-            });
-        }
+    /// Begins an item; what it finds does not depend on what was asked before.
+    fn begin(&mut self, index: u64) {
+        self.index = index;
+        self.port.forget();
+    }
+
+    /// Asks both sides, the port by each of its faces, and compares every field, every step and the lists.
+    /// Gives what the port answered by its first face.
+    pub fn compare(&mut self, case: &Case, random: &mut Random) -> Outcome {
+        let expected = expect::answer(case, &mut self.reference);
+        self.tally.count(case, &expected);
+        self.port.lend(case, random);
+        let outcomes = FACES.each_ref().map(|face| {
+            let outcome = self.port.ask(face, case, expected.refusal != 0);
+            if !as_expected(&outcome, &expected) {
+                self.tally.differ(self.index, &[case], || difference(case, face.name, &outcome, &expected));
+            }
+            outcome
+        });
+        outcomes.into_iter().next().expect("the port has a face")
+    }
+
+    /// Asks the port the question of a record; what differs from the record's answer, in words.
+    pub fn differs_from(&mut self, record: &Record, random: &mut Random) -> Option<String> {
+        let Record { case, answer: expected, fields } = record;
+        self.port.forget();
+        self.port.lend(case, random);
+        FACES.iter().find_map(|face| {
+            let mut outcome = self.port.ask(face, case, expected.refusal != 0);
+            // A field that the record does not have is not compared.
+            outcome.answer.fields[*fields..].copy_from_slice(&expected.fields[*fields..]);
+            (!as_expected(&outcome, expected)).then(|| difference(case, face.name, &outcome, expected))
+        })
     }
 }
 
-/// Runs the items 0 to `count` over `threads` threads, each item by itself, and adds up the tallies.
-pub fn over_threads(threads: usize, count: u64, each: impl Fn(&mut Sides, u64) + Sync) -> Tally {
-    const BLOCK: u64 = 256;
-    let next = std::sync::atomic::AtomicU64::new(0);
-    let begun = Instant::now();
-    let mut total = Tally::default();
-    std::thread::scope(|scope| {
-        let workers: Vec<_> = (0..threads)
-            .map(|_| {
-                scope.spawn(|| {
-                    let mut sides = Sides::default();
-                    loop {
-                        let from = next.fetch_add(BLOCK, std::sync::atomic::Ordering::Relaxed);
-                        if from >= count {
-                            return sides.tally;
-                        }
-                        for index in from..count.min(from + BLOCK) {
-                            each(&mut sides, index);
-                        }
-                    }
-                })
-            })
-            .collect();
-        for worker in workers {
-            total += worker.join().expect("a thread ends");
+fn as_expected(outcome: &Outcome, expected: &Answer) -> bool {
+    outcome.answer == *expected && outcome.faults.is_empty()
+}
+
+/// Both answers in words.
+fn difference(case: &Case, face: &str, outcome: &Outcome, expected: &Answer) -> String {
+    let lists = if outcome.faults.is_empty() { "as expected".into() } else { outcome.faults.join("; ") };
+    let (port, reference) = (outcome.answer.text(case.call), expected.text(case.call));
+    format!("port ({face}): {port}\n  expected: {reference}\n  lists: {lists}")
+}
+
+/// Asks a case alone, with several kinds of garbage in the lists: what differs first, in words.
+pub fn differs_alone(case: &Case, sides: &mut Sides) -> Option<String> {
+    const TIMES: u64 = 8;
+    let expected = expect::answer(case, &mut sides.reference);
+    for time in 0..TIMES {
+        let mut random = Random::new(0, time);
+        sides.port.forget();
+        sides.port.lend(case, &mut random);
+        for face in &FACES {
+            // The second call finds what the first left.
+            for _ in 0..2 {
+                let outcome = sides.port.ask(face, case, expected.refusal != 0);
+                if !as_expected(&outcome, &expected) {
+                    return Some(difference(case, face.name, &outcome, &expected));
+                }
+            }
         }
-    });
-    println!("({:.1} s on {threads} threads)", begun.elapsed().as_secs_f64());
-    total
+    }
+    None
+}
+
+/// Prints what both sides answer to a case; true if they agree.
+pub fn ask(case: &Case) -> bool {
+    let mut sides = Sides::default();
+    let expected = expect::answer(case, &mut sides.reference);
+    println!("expected: {}", expected.text(case.call));
+    sides.port.lend(case, &mut Random::new(0, 0));
+    for face in &FACES {
+        let outcome = sides.port.ask(face, case, expected.refusal != 0);
+        println!("port ({}): {}", face.name, outcome.answer.text(case.call));
+        outcome.faults.iter().for_each(|fault| println!("  {fault}"));
+    }
+    match differs_alone(case, &mut sides) {
+        None => println!("they agree"),
+        Some(text) => {
+            println!("THEY DIFFER\n  {text}");
+            return false;
+        }
+    }
+    true
+}
+
+/// Asks all that an item has.
+type Item = dyn Fn(&mut Sides, u64) + Sync;
+
+/// A run: items by themselves, so that they can be split over threads and repeated one by one.
+pub struct Run {
+    pub name: &'static str,
+    pub seed: u64,
+    /// The items are 0, `step`, twice `step` and so on, below `end`.
+    pub step: u64,
+    pub end: u64,
+    each: Box<Item>,
+}
+
+impl Run {
+    /// A run over the items below `end`. Each is drawn by the random numbers of the seed and the item.
+    pub fn new(name: &'static str, seed: u64, end: u64, each: impl Fn(&mut Sides, Random) + Sync + 'static) -> Self {
+        let each = move |sides: &mut Sides, index| each(sides, Random::new(seed, index));
+        Self { name, seed, step: 1, end, each: Box::new(each) }
+    }
+
+    /// Every so many items only.
+    pub fn every(self, step: u64) -> Self {
+        Self { step, ..self }
+    }
+
+    /// One item alone.
+    pub fn only(&self, index: u64) -> Tally {
+        let mut sides = Sides::default();
+        self.item(&mut sides, index);
+        sides.tally
+    }
+
+    fn item(&self, sides: &mut Sides, index: u64) {
+        sides.begin(index);
+        (self.each)(sides, index);
+    }
+
+    /// All items, over so many threads; which thread has which item changes nothing.
+    pub fn over(&self, threads: usize) -> Tally {
+        const BLOCK: u64 = 64;
+        let (next, count) = (AtomicU64::new(0), self.end.div_ceil(self.step));
+        let work = || {
+            let mut sides = Sides::default();
+            loop {
+                let from = next.fetch_add(BLOCK, Ordering::Relaxed);
+                if from >= count {
+                    return sides.tally;
+                }
+                (from..count.min(from + BLOCK)).for_each(|item| self.item(&mut sides, item * self.step));
+            }
+        };
+        let mut total = Tally::default();
+        std::thread::scope(|scope| {
+            let workers: Vec<_> = (0..threads).map(|_| scope.spawn(work)).collect();
+            for worker in workers {
+                total += worker.join().expect("a thread ends");
+            }
+        });
+        total
+    }
+
+    /// All items, with the counts printed, and each of the first differences repeated by `again` and its item.
+    pub fn report(&self, threads: usize, again: &str) -> Tally {
+        let begun = Instant::now();
+        let tally = self.over(threads);
+        println!("{} ({:.1} s on {threads} threads)\n{tally}", self.name, begun.elapsed().as_secs_f64());
+        tally.print_differences(self.seed, &format!("{again} only={}:", self.name));
+        tally
+    }
 }

@@ -1,6 +1,7 @@
 //! Random questions, tables and windows.
 
-use crate::question::{DUP, KEY, Limits, PAIRS, POP, Question, SWAP, Tables};
+use crate::case::{Case, DUP, KEY, Limits, PAIRS, POP, SWAP, Tables};
+use std::sync::Arc;
 
 /// A small random number generator (splitmix64).
 #[derive(Clone, Debug)]
@@ -141,7 +142,7 @@ pub fn windows(random: &mut Random, most: usize) -> (Vec<u8>, Vec<u8>) {
     (start, goal)
 }
 
-fn shuffle(random: &mut Random, window: &mut [u8]) {
+pub fn shuffle(random: &mut Random, window: &mut [u8]) {
     for i in (1..window.len()).rev() {
         window.swap(i, random.below(i + 1));
     }
@@ -194,8 +195,8 @@ pub fn limits(random: &mut Random) -> Limits {
     Limits { dup_max, swap_max, max_len, max_expansions, states_without, states_with }
 }
 
-/// An accepted question.
-pub fn question<'a>(random: &mut Random, tables: &'a Tables) -> Question<'a> {
+/// An accepted question with the least lists.
+pub fn question(random: &mut Random, tables: &Arc<Tables>) -> Case {
     let limits = limits(random);
     let most = limits.swap_max.min(limits.max_len);
     let (mut start, mut goal) = windows(random, most);
@@ -205,13 +206,14 @@ pub fn question<'a>(random: &mut Random, tables: &'a Tables) -> Question<'a> {
             (start, goal) = windows(random, most);
         }
     }
-    Question { start, goal, limits, tables }
+    Case::plan(limits, &start, &goal, tables)
 }
 
-/// Spoils one thing of a question, or its tables' copy.
-pub fn spoil(random: &mut Random, question: &mut Question<'_>, tables: &mut Tables) {
-    let limits = &mut question.limits;
+/// Spoils one thing of a case; the lists lent stay.
+pub fn spoil(random: &mut Random, case: &mut Case) {
+    let limits = &mut case.limits;
     let far = |random: &mut Random| random.pick(&[0, 1, 200, usize::MAX - 70_000]);
+    let tables = Arc::make_mut(&mut case.tables);
     match random.below(14) {
         0 => limits.dup_max = 17 + far(random),
         1 => limits.swap_max = 18 + far(random),
@@ -227,10 +229,10 @@ pub fn spoil(random: &mut Random, question: &mut Question<'_>, tables: &mut Tabl
         }
         9 => tables.prices.resize(random.pick(&[0, 98, 195, 197, 400]), 0),
         10 => set(random, &mut tables.prices, &[30_001, u32::MAX]),
-        11 => set(random, &mut question.start, &[64, 65, 255]),
-        12 => set(random, &mut question.goal, &[64, 65, 255]),
+        11 => set(random, &mut case.start, &[64, 65, 255]),
+        12 => set(random, &mut case.goal, &[64, 65, 255]),
         _ => {
-            let window = if random.once_in(2) { &mut question.start } else { &mut question.goal };
+            let window = if random.once_in(2) { &mut case.start } else { &mut case.goal };
             let most = limits.swap_max.min(limits.max_len).min(21);
             window.resize(most + 1 + random.below(6), random.pick(&[0, 1, 32, 63]));
         }

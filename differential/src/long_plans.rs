@@ -4,10 +4,11 @@
 //! until the right item is at the right depth: hundreds of cheap steps in the place of one dear step.
 
 use crate::{
+    case::{Case, DUP, ENDING, EXPANSIONS, KEY, ORIGIN, POP, SWAP, Tables, limits},
     draw::Random,
-    question::{DUP, KEY, POP, Question, SWAP, Tables, limits},
     reference::Reference,
 };
+use std::sync::Arc;
 
 /// Prices by which Pop, Dup `place` and Swap `depth` cost `cheap`, a key costs `key` gas and all else 30,000 gas.
 pub fn shifting_prices(place: usize, depth: usize, cheap: (u32, u32), key: u32) -> Tables {
@@ -33,18 +34,17 @@ pub fn run(seed: u64, count: u64) {
         let keys = 3 + random.below(3);
         let mut window = || -> Vec<u8> { (0..1 + random.below(max_len)).map(|_| random.below(keys) as u8).collect() };
         let (start, goal) = (window(), window());
-        let tables = shifting_prices(place, depth, cheap, 10);
+        let tables = Arc::new(shifting_prices(place, depth, cheap, 10));
         let limits = limits([place + 1, max_len, max_len, 65_536, 65_536, 65_536]);
-        let question = Question { start, goal, limits, tables: &tables };
-        let (answer, _) = reference.plan(&question);
-        over += u64::from(answer.step_count > 128);
-        if answer.step_count > longest {
-            longest = answer.step_count;
-            let Question { start, goal, limits, .. } = question;
+        let answer = reference.plan(&Case::plan(limits, &start, &goal, &tables));
+        over += u64::from(answer.plan.len() > 128);
+        if answer.plan.len() > longest {
+            longest = answer.plan.len();
+            let [expansions, ending, origin] = [EXPANSIONS, ENDING, ORIGIN].map(|at| answer.fields[at]);
             println!(
-                "{longest} steps, {} expansions, ending {}, origin {}: {start:?} to {goal:?}, {limits:?}; \
-                 Pop, Dup {place} and Swap {depth} {}/{}, keys 10/0, all else 30,000/0",
-                answer.expansions, answer.ending, answer.origin, cheap.0, cheap.1
+                "{longest} steps, {expansions} expansions, ending {ending}, origin {origin}: {start:?} to {goal:?}, \
+                 {limits:?}; Pop, Dup {place} and Swap {depth} {}/{}, keys 10/0, all else 30,000/0",
+                cheap.0, cheap.1
             );
         }
     }

@@ -1,38 +1,39 @@
-//! Compares the port, through libcapi.a, with the Rust's own text. See `differential/run`.
+//! Compares the port with the Rust's own text. See `differential/run`.
 
 mod bench;
 mod calls;
+mod case;
 mod claims;
+mod command;
 mod compare;
 mod draw;
+mod edges;
 mod exhaustive;
-mod lent;
+mod expect;
+mod faces;
 mod long_plans;
 mod model;
-mod question;
+mod port;
+mod random;
+mod record;
 mod reference;
+mod short;
+mod shrink;
+mod tally;
 mod vector_questions;
 mod vectors;
 
-use compare::{Tally, over_threads};
-use draw::Random;
-use question::{Question, Tables};
+use compare::Run;
 use std::process::ExitCode;
+use tally::Tally;
 
 fn main() -> ExitCode {
     let words: Vec<String> = std::env::args().skip(1).collect();
     let words: Vec<&str> = words.iter().map(String::as_str).collect();
     let threads = std::env::var("NIMSKERF_THREADS").ok().and_then(|n| n.parse().ok()).unwrap_or(2);
     let good = match words.as_slice() {
-        ["exhaustive"] => {
-            let questions = finish(&exhaustive::run(threads));
-            finish(&exhaustive::refusals(threads)) && questions
-        }
-        ["random", seed, count] => finish(&random(threads, number(seed), number(count))),
-        ["calls"] => calls::run(1, 200_000) == 0,
-        ["calls", seed, count] => calls::run(number(seed), number(count)) == 0,
-        ["claims"] => finish(&claims::run(threads, 1, 50_000)),
-        ["claims", seed, count] => finish(&claims::run(threads, number(seed), number(count))),
+        [mode @ .., only] if only.starts_with("only=") => one_item(&runs(mode), only),
+        ["short"] => short::run(threads),
         ["bench"] => bench::run(),
         ["bench", "lists"] => {
             bench::lists();
@@ -44,70 +45,73 @@ fn main() -> ExitCode {
             long_plans::run(number(seed), number(count));
             true
         }
-        ["ask", numbers @ .., start, goal] if numbers.len() == 6 => {
-            ask(numbers, start, goal);
-            true
-        }
-        _ => {
-            eprintln!("unknown mode; see the head of differential/run");
-            return ExitCode::from(2);
+        ["ask", words @ ..] => compare::ask(&command::parse(words).unwrap_or_else(|fault| stop(&fault))),
+        mode => {
+            if *mode == ["exhaustive"] {
+                exhaustive::describe();
+            }
+            all_items(&runs(mode), threads, mode)
         }
     };
     if good { ExitCode::SUCCESS } else { ExitCode::FAILURE }
 }
 
-fn number(word: &str) -> u64 {
-    word.parse().unwrap_or_else(|_| {
-        eprintln!("`{word}` is no number");
-        std::process::exit(2)
-    })
+/// The runs of a mode.
+fn runs(mode: &[&str]) -> Vec<Run> {
+    match *mode {
+        ["exhaustive"] => exhaustive::runs().into_iter().chain([edges::run()]).collect(),
+        ["exhaustive", name] => {
+            let mut runs = runs(&["exhaustive"]);
+            runs.retain(|run| run.name == name);
+            if runs.is_empty() { stop(&format!("exhaustive has no run `{name}`")) } else { runs }
+        }
+        ["random", seed, count] => vec![random::run(number(seed), number(count))],
+        ["calls"] => calls::runs(1, 200_000),
+        ["calls", seed, count] => calls::runs(number(seed), number(count)),
+        ["claims"] => vec![claims::run(1, 50_000)],
+        ["claims", seed, count] => vec![claims::run(number(seed), number(count))],
+        ["short"] => short::runs(),
+        _ => stop("unknown mode; see the head of differential/run"),
+    }
 }
 
-fn finish(tally: &Tally) -> bool {
+/// Runs everything, with the sums of what was accepted and refused.
+fn all_items(runs: &[Run], threads: usize, mode: &[&str]) -> bool {
+    let again = format!("differential/run {}", mode.join(" "));
+    let mut total = Tally::default();
+    for run in runs {
+        total += run.report(threads, &again);
+    }
+    println!(
+        "in all         {} accepted, {} refused, {} differences",
+        total.accepted(),
+        total.refusals(),
+        total.differences
+    );
+    total.differences == 0
+}
+
+/// Runs one item, `only=RUN:ITEM`.
+fn one_item(runs: &[Run], only: &str) -> bool {
+    let (name, item) = only["only=".len()..].rsplit_once(':').unwrap_or_else(|| stop("only=RUN:ITEM is meant"));
+    let Some(run) = runs.iter().find(|run| run.name == name) else {
+        stop(&format!("this mode has no run `{name}`"));
+    };
+    let item = number(item);
+    if item >= run.end {
+        stop(&format!("the last item is {}", run.end - 1));
+    }
+    let tally = run.only(item);
     println!("{tally}");
+    tally.print_differences(run.seed, "item ");
     tally.differences == 0
 }
 
-/// Random questions, one in twenty of them spoilt to be refused.
-fn random(threads: usize, seed: u64, count: u64) -> Tally {
-    over_threads(threads, count, |sides, index| {
-        let mut random = Random::new(seed, index);
-        let mut tables = draw::tables(&mut random);
-        let sound = tables.clone();
-        let mut question = draw::question(&mut random, &sound);
-        let mut lengths = lent::lengths(&question, &mut random);
-        if random.once_in(20) {
-            if random.once_in(4) {
-                lent::shorten(&mut lengths, &question, &mut random);
-            }
-            for _ in 0..random.below(3) {
-                draw::spoil(&mut random, &mut question, &mut tables);
-            }
-        }
-        let question = Question { tables: &tables, ..question };
-        sides.compare(&question, &lengths, &mut random);
-    })
+fn number(word: &str) -> u64 {
+    word.parse().unwrap_or_else(|_| stop(&format!("`{word}` is no number")))
 }
 
-/// Prints the reference's answer to one question with the desk's tables.
-fn ask(numbers: &[&str], start: &str, goal: &str) {
-    let tables = Tables::desk();
-    let window = |text: &str| text.split_whitespace().map(|key| number(key) as u8).collect();
-    let numbers: Vec<usize> = numbers.iter().map(|word| number(word) as usize).collect();
-    let question = Question {
-        start: window(start),
-        goal: window(goal),
-        limits: question::limits(numbers.try_into().expect("six numbers")),
-        tables: &tables,
-    };
-    let refusal = model::plan_refusal(&question, &model::Lengths::least(&question));
-    if refusal != 0 {
-        println!("refused {refusal}");
-        return;
-    }
-    let (answer, steps) = reference::Reference::default().plan(&question);
-    println!("{answer:?}");
-    for code in steps {
-        println!("{}", nimskerf::Step::from_code(code).expect("a step"));
-    }
+fn stop(message: &str) -> ! {
+    eprintln!("{message}");
+    std::process::exit(2)
 }

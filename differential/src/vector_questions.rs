@@ -1,60 +1,45 @@
 //! Which questions stand in the fixed list.
 
 use crate::{
+    case::{CEILING, Call, Case, ENDING, EXPANSIONS, FOUND, KEY, Limits, ORIGIN, POP, SWAP, Tables, limits},
     draw::{self, Random},
+    expect,
     long_plans::shifting_prices,
-    model::Lengths,
-    question::{KEY, Limits, POP, Question, SWAP, Tables, limits},
+    record::Record,
     reference::Reference,
-    vectors::{Call, Pool, Record},
 };
-
-/// Places of some price lists in the pool.
-const DESK: usize = 0;
-pub const ALL_ZERO: usize = 1;
-const SPOILT_PRICE: usize = 2;
-const SPOILT_SWAP_0: usize = 3;
-/// Price lists from here on are accepted, and drawn from.
-const DRAWN: usize = 4;
-
-/// Places of some kinds in the pool.
-const DESK_KINDS: usize = 0;
-const ALL_VALUES: usize = 1;
-const SPOILT_KIND: usize = 2;
-const SECOND_ZERO: usize = 3;
-const DRAWN_KINDS: usize = 4;
+use std::{collections::HashMap, sync::Arc};
 
 const WIDE: [usize; 6] = [16, 17, 21, 0, 1000, 1000];
 
 /// Collects records, each answered by the reference.
 struct List {
-    pool: Pool,
+    desk: Arc<Tables>,
     records: Vec<Record>,
     reference: Reference,
 }
 
-/// The price lists, the kinds and the records.
-pub fn all() -> (Pool, Vec<Record>) {
-    let mut list = List { pool: pool(), records: Vec::new(), reference: Reference::default() };
+/// The records; some may be alike.
+pub fn all() -> Vec<Record> {
+    let desk = Arc::new(Tables::desk());
+    let mut list = List { desk, records: Vec::new(), reference: Reference::default() };
     known_outcomes(&mut list);
     plan_refusals(&mut list);
     edge_lengths(&mut list);
     drawn_plans(&mut list);
     long_plans(&mut list);
     other_calls(&mut list);
-    (list.pool, list.records)
+    list.records
 }
 
-fn pool() -> Pool {
+/// Price lists to draw from; the first are the desk's, all zero and all 30,000.
+fn price_lists() -> Vec<Vec<u32>> {
     let desk = Tables::desk();
     let at = |pair: usize| (desk.prices[2 * pair], desk.prices[2 * pair + 1]);
     let prices_of = |price: &dyn Fn(usize) -> (u32, u32)| Tables::desk_with(price).prices;
     let mut prices = vec![
         desk.prices.clone(),
         vec![0; 196],
-        prices_of(&|pair| if pair == KEY + 63 { (3, 30_001) } else { at(pair) }),
-        prices_of(&|pair| if pair == SWAP { (30_001, 1) } else { at(pair) }),
-        // Drawn from here.
         vec![30_000; 196],
         vec![1; 196],
         prices_of(&|pair| if (SWAP..KEY).contains(&pair) { (0, 0) } else { at(pair) }),
@@ -69,73 +54,85 @@ fn pool() -> Pool {
         let mut random = Random::new(5, style);
         prices.push(draw::tables(&mut random).prices);
     }
-    let mut kinds = vec![desk.kinds.clone(), vec![0; 64], desk.kinds.clone(), desk.kinds.clone(), vec![1; 64]];
-    kinds[SPOILT_KIND][63] = 3;
-    kinds[SECOND_ZERO][0] = 2;
+    prices
+}
+
+/// Kinds to draw from.
+fn kinds_lists() -> Vec<Vec<u8>> {
+    let mut kinds = vec![Tables::desk().kinds, vec![0; 64], vec![1; 64]];
     for index in 0..3 {
         let mut random = Random::new(6, index);
         let mut drawn: Vec<u8> = (0..64).map(|_| random.below(2) as u8).collect();
         drawn[index as usize] = 2;
         kinds.push(drawn);
     }
-    Pool { prices, kinds }
+    kinds
+}
+
+fn kinds(case: &mut Case) -> &mut Vec<u8> {
+    &mut Arc::make_mut(&mut case.tables).kinds
+}
+
+fn prices(case: &mut Case) -> &mut Vec<u32> {
+    &mut Arc::make_mut(&mut case.tables).prices
+}
+
+/// Sets an entry of a list that may be cut short.
+fn spoil<T>(list: &mut [T], at: usize, value: T) {
+    if let Some(entry) = list.get_mut(at) {
+        *entry = value;
+    }
 }
 
 impl List {
-    fn add(&mut self, mut record: Record) {
-        record.answer(&self.pool, &mut self.reference);
-        self.records.push(record);
+    fn add(&mut self, case: Case) {
+        let answer = expect::answer(&case, &mut self.reference);
+        self.records.push(Record::new(case, answer));
+    }
+
+    /// A call of nothing, to be filled in.
+    fn new_case(&self, call: Call) -> Case {
+        let mut case = Case::new(call, &self.desk);
+        case.lent = case.least();
+        case
     }
 
     /// A question to the planner with the least lists, and what `change` makes of it.
-    fn plan(&mut self, numbers: [usize; 6], start: &[u8], goal: &[u8], change: impl FnOnce(&mut Record)) {
-        let tables = Tables::desk();
-        let question =
-            Question { start: start.to_vec(), goal: goal.to_vec(), limits: limits(numbers), tables: &tables };
-        let mut record = Record::new(Call::Plan);
-        record.lent = Lengths::least(&question);
-        (record.start, record.goal, record.limits) = (question.start, question.goal, question.limits);
-        change(&mut record);
-        self.add(record);
+    fn plan(&mut self, numbers: [usize; 6], start: &[u8], goal: &[u8], change: impl FnOnce(&mut Case)) {
+        let mut case = Case::plan(limits(numbers), start, goal, &self.desk);
+        change(&mut case);
+        self.add(case);
     }
 
     fn builder(&mut self, call: Call, start: &[u8], goal: &[u8], swap_max: usize, steps: usize) {
-        let mut record = Record::new(call);
-        (record.start, record.goal) = (start.to_vec(), goal.to_vec());
-        record.limits.swap_max = swap_max;
-        record.lent.steps = steps;
-        self.add(record);
+        let mut case = self.new_case(call);
+        (case.start, case.goal) = (start.to_vec(), goal.to_vec());
+        case.limits.swap_max = swap_max;
+        case.lent.steps = steps;
+        self.add(case);
     }
 
     fn pack(&mut self, ids: &[u8]) {
-        let mut record = Record::new(Call::Pack);
-        record.start = ids.to_vec();
-        self.add(record);
+        let mut case = self.new_case(Call::Pack);
+        case.start = ids.to_vec();
+        self.add(case);
     }
 
     /// A replay of steps with a result list of 21, and what `change` makes of it.
-    fn replay(&mut self, start: &[u8], steps: &[u16], change: impl FnOnce(&mut Record)) {
-        let mut record = Record::new(Call::Replay);
-        (record.start, record.steps, record.limits) = (start.to_vec(), steps.to_vec(), reaches(16, 17, 21));
-        record.lent.steps = 21;
-        change(&mut record);
-        self.add(record);
+    fn replay(&mut self, start: &[u8], steps: &[u16], change: impl FnOnce(&mut Case)) {
+        let mut case = self.new_case(Call::Replay);
+        (case.start, case.steps, case.limits) = (start.to_vec(), steps.to_vec(), reaches(16, 17, 21));
+        change(&mut case);
+        self.add(case);
     }
 
-    fn mark(
-        &mut self,
-        start: &[u8],
-        goal: &[u8],
-        steps: &[u16],
-        ceiling: (u32, u32),
-        change: impl FnOnce(&mut Record),
-    ) {
-        let mut record = Record::new(Call::Mark);
-        (record.start, record.goal, record.steps) = (start.to_vec(), goal.to_vec(), steps.to_vec());
-        record.limits = reaches(16, 17, 21);
-        record.given_ceiling = ceiling;
-        change(&mut record);
-        self.add(record);
+    fn mark(&mut self, start: &[u8], goal: &[u8], steps: &[u16], ceiling: (u32, u32), change: impl FnOnce(&mut Case)) {
+        let mut case = self.new_case(Call::Mark);
+        (case.start, case.goal, case.steps) = (start.to_vec(), goal.to_vec(), steps.to_vec());
+        case.limits = reaches(16, 17, 21);
+        case.ceiling = [ceiling.0, ceiling.1];
+        change(&mut case);
+        self.add(case);
     }
 }
 
@@ -145,7 +142,7 @@ fn reaches(dup_max: usize, swap_max: usize, max_len: usize) -> Limits {
 
 /// Document 01's questions, starred and unstarred, and the desk's example.
 fn known_outcomes(list: &mut List) {
-    let same = |_: &mut Record| {};
+    let same = |_: &mut Case| {};
     list.plan(WIDE, &[0, 1, 2], &[0], same);
     list.plan(WIDE, &[0, 1], &[], same);
     list.plan(WIDE, &[0], &[0, 0], same);
@@ -174,20 +171,20 @@ fn known_outcomes(list: &mut List) {
 fn plan_refusals(list: &mut List) {
     let (start, goal) = (&[0, 1], &[1]);
     let some = [16, 17, 21, 100, 200, 300];
-    let mut ask = |change: &dyn Fn(&mut Record)| list.plan(some, start, goal, change);
-    let changes: Vec<&dyn Fn(&mut Record)> = vec![
+    let mut ask = |change: &dyn Fn(&mut Case)| list.plan(some, start, goal, change);
+    let changes: Vec<&dyn Fn(&mut Case)> = vec![
         &|r| r.limits.dup_max = 17,
         &|r| r.limits.swap_max = 18,
         &|r| r.limits.max_len = 22,
         &|r| r.limits.max_expansions = 65_537,
         &|r| r.limits.states_without = 65_537,
         &|r| r.limits.states_with = 65_537,
-        &|r| r.kinds.1 = 63,
-        &|r| r.kinds.0 = SPOILT_KIND,
-        &|r| r.kinds.0 = SECOND_ZERO,
-        &|r| r.prices.1 = 195,
-        &|r| r.prices.0 = SPOILT_PRICE,
-        &|r| r.prices.0 = SPOILT_SWAP_0,
+        &|r| kinds(r).truncate(63),
+        &|r| spoil(kinds(r), 63, 3),
+        &|r| spoil(kinds(r), 0, 2),
+        &|r| prices(r).truncate(195),
+        &|r| spoil(prices(r), 195, 30_001),
+        &|r| spoil(prices(r), 2 * SWAP, 30_001),
         &|r| r.start[1] = 64,
         &|r| r.goal[0] = 255,
         &|r| r.start = vec![5; 18],
@@ -225,6 +222,7 @@ fn plan_refusals(list: &mut List) {
 
 /// Windows and reaches at their edges.
 fn edge_lengths(list: &mut List) {
+    let lists = price_lists();
     let rising: Vec<u8> = (0..17).collect();
     let falling: Vec<u8> = rising.iter().rev().copied().collect();
     let high: Vec<u8> = (47..64).collect();
@@ -232,11 +230,11 @@ fn edge_lengths(list: &mut List) {
     let windows = [&rising[..], &falling, &high, &mixed, &rising[..16], &falling[..1], &mixed[..9], &[]];
     for (i, start) in windows.iter().enumerate() {
         for (j, goal) in windows.iter().enumerate() {
-            let prices = [DESK, ALL_ZERO, DRAWN, DRAWN + 3][(i + j) % 4];
+            let listed = &lists[[0, 1, 2, 5][(i + j) % 4]];
             let dup_max = [16, 0, 1, 15][(i + 3 * j) % 4];
             let max_len = [21, 17, 18][(i + j) % 3];
-            list.plan([dup_max, 17, max_len, [0, 6, 40][(2 * i + j) % 3], 600, 900], start, goal, |record| {
-                record.prices.0 = prices
+            list.plan([dup_max, 17, max_len, [0, 6, 40][(2 * i + j) % 3], 600, 900], start, goal, |case| {
+                *prices(case) = listed.clone()
             });
         }
     }
@@ -259,31 +257,26 @@ fn edge_lengths(list: &mut List) {
 fn drawn_plans(list: &mut List) {
     const SHARE: usize = 32;
     const DRAWS: u64 = 60_000;
-    let mut shares = std::collections::HashMap::new();
+    let (price_lists, kinds_lists) = (price_lists(), kinds_lists());
+    let mut shares = HashMap::new();
     for index in 0..DRAWS {
         let mut random = Random::new(7, index);
-        let accepted = [DESK, ALL_ZERO].into_iter().chain(DRAWN..list.pool.prices.len());
-        let prices = random.pick(&accepted.collect::<Vec<_>>());
-        let accepted = [DESK_KINDS, ALL_VALUES].into_iter().chain(DRAWN_KINDS..list.pool.kinds.len());
-        let kinds = random.pick(&accepted.collect::<Vec<_>>());
-        let tables = Tables { kinds: list.pool.kinds[kinds].clone(), prices: list.pool.prices[prices].clone() };
-        let mut question = draw::question(&mut random, &tables);
-        for allowance in
-            [&mut question.limits.max_expansions, &mut question.limits.states_without, &mut question.limits.states_with]
-        {
+        let prices = price_lists[random.below(price_lists.len())].clone();
+        let kinds = kinds_lists[random.below(kinds_lists.len())].clone();
+        let mut case = draw::question(&mut random, &Arc::new(Tables { kinds, prices }));
+        let limits = &mut case.limits;
+        for allowance in [&mut limits.max_expansions, &mut limits.states_without, &mut limits.states_with] {
             *allowance = (*allowance).min(1_000);
         }
-        let mut record = Record::new(Call::Plan);
-        record.lent = Lengths::least(&question);
-        (record.start, record.goal, record.limits) = (question.start, question.goal, question.limits);
-        (record.prices.0, record.kinds.0) = (prices, kinds);
-        record.answer(&list.pool, &mut list.reference);
+        case.lent = case.least();
+        let answer = expect::answer(&case, &mut list.reference);
         // By found, origin, ending, and whether much was expanded.
-        let sort = (record.fields[0], record.fields[6], record.fields[7], record.fields[8] > 60);
+        let fields = &answer.fields;
+        let sort = (fields[FOUND], fields[ORIGIN], fields[ENDING], fields[EXPANSIONS] > 60);
         let share: &mut usize = shares.entry(sort).or_default();
         if *share < SHARE {
             *share += 1;
-            list.records.push(record);
+            list.records.push(Record::new(case, answer));
         }
     }
 }
@@ -300,21 +293,14 @@ fn long_plans(list: &mut List) {
         (3, 9, (0, 0), 14, [9_400, 20_000], &[1, 3, 2, 2], &[2, 3, 3, 0, 0, 2]),
     ];
     for (place, depth, cheap, max_len, [expansions, states], start, goal) in rows {
-        let prices = shifting_prices(place, depth, cheap, 10).prices;
-        let index = list.pool.prices.iter().position(|other| *other == prices).unwrap_or_else(|| {
-            list.pool.prices.push(prices);
-            list.pool.prices.len() - 1
-        });
-        list.plan([place + 1, max_len, max_len, expansions, states, states], start, goal, |record| {
-            record.prices.0 = index;
-            record.kinds.0 = ALL_VALUES;
-        });
+        let tables = Arc::new(shifting_prices(place, depth, cheap, 10));
+        list.plan([place + 1, max_len, max_len, expansions, states, states], start, goal, |case| case.tables = tables);
     }
 }
 
 /// Replay, marking, packing and the builders: every refusal, and drawn calls.
 fn other_calls(list: &mut List) {
-    let same = |_: &mut Record| {};
+    let same = |_: &mut Case| {};
     // Every code of a small range of operands on one window.
     for kind in 0..6u16 {
         for operand in [0, 1, 2, 3, 15, 16, 17, 32, 33, 63, 64, 255] {
@@ -326,25 +312,25 @@ fn other_calls(list: &mut List) {
         list.replay(&full, &[code], same);
         list.replay(&full[..20], &[code, 256], same);
     }
-    let refused: Vec<&dyn Fn(&mut Record)> = vec![
+    let refused: Vec<&dyn Fn(&mut Case)> = vec![
         &|r| r.limits.dup_max = 17,
         &|r| r.limits.swap_max = 18,
         &|r| r.limits.max_len = 22,
-        &|r| r.kinds.1 = 63,
-        &|r| r.kinds.0 = SPOILT_KIND,
-        &|r| r.kinds.0 = SECOND_ZERO,
+        &|r| kinds(r).truncate(63),
+        &|r| spoil(kinds(r), 63, 3),
+        &|r| spoil(kinds(r), 0, 2),
         &|r| r.start[0] = 64,
         &|r| r.limits.max_len = 1,
         &|r| r.lent.steps = 20,
         &|r| r.steps = vec![256, 256, 1280],
-        &|r| r.prices.0 = SPOILT_PRICE,
-        &|r| r.prices.1 = 0,
+        &|r| spoil(prices(r), 195, 30_001),
+        &|r| prices(r).clear(),
         &|r| r.goal = vec![64; 22],
         &|r| r.goal = vec![1; 22],
     ];
     for (i, first) in refused.iter().enumerate() {
         for second in &refused[i..] {
-            let change = |record: &mut Record| {
+            let change = |record: &mut Case| {
                 first(record);
                 second(record);
             };
@@ -358,18 +344,16 @@ fn other_calls(list: &mut List) {
         list.mark(&[], &[], &[], ceiling, same);
     }
     // Plans of the planner, marked at their ceiling and one below.
-    for plan in
-        list.records.clone().into_iter().filter(|record| record.fields[0] == 1 && record.refusal == 0).step_by(17)
-    {
-        if plan.call != Call::Plan {
-            continue;
+    let plans = list.records.clone().into_iter().filter(|Record { case, answer, .. }| {
+        case.call == Call::Plan && answer.refusal == 0 && answer.fields[FOUND] == 1
+    });
+    for Record { case: plan, answer, .. } in plans.step_by(17) {
+        let [gas, bytes] = [CEILING, CEILING + 1].map(|at| answer.fields[at] as u32);
+        let same_limits = |case: &mut Case| (case.limits, case.tables) = (plan.limits, Arc::clone(&plan.tables));
+        for ceiling in [(gas, bytes), (gas, bytes.wrapping_sub(1))] {
+            list.mark(&plan.start, &plan.goal, &answer.plan, ceiling, same_limits);
         }
-        for ceiling in [(plan.fields[4], plan.fields[5]), (plan.fields[4], plan.fields[5].wrapping_sub(1))] {
-            list.mark(&plan.start, &plan.goal, &plan.steps, ceiling, |record| {
-                (record.limits, record.prices, record.kinds) = (plan.limits, plan.prices, plan.kinds);
-            });
-        }
-        list.replay(&plan.start, &plan.steps, |record| (record.limits, record.kinds) = (plan.limits, plan.kinds));
+        list.replay(&plan.start, &answer.plan, same_limits);
     }
     for length in 0..=PACKED {
         list.pack(&vec![63; length]);

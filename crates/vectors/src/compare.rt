@@ -1,4 +1,4 @@
-// Comparing what a call has answered and written with a record.
+// Comparing what a call has answered and written with the fields of a record.
 use crate::file;
 use crate::file::byte;
 use crate::file::code;
@@ -8,16 +8,20 @@ use planner::Answer;
 ghost use mathlib.Core.Path.{_≡_};
 ghost use mathlib.Core.Bool.{true};
 ghost use mathlib.Core.List.{[], _∷_};
-ghost use Prim.Native.Nat.{_≤_};
+ghost use Prim.Native.Nat.{_≤_, _/_};
+ghost use lib.ListN.{length};
 ghost use Rattle.vectors.specs.File.{wantedStep, wantedKey, AsFields, AsSteps, AsWindow};
 
-// Whether the refusal and the nine fields are the record's.
-pub fn same_fields(rec: &[u8], got: &[usize; 10]) -> bool
-    ensures { λ r. ⌜ (r ≡ true → AsFields (now (rec .entry)) (now (got .entry))) ⌝ }
+// Whether the refusal and every field that the record has are answered. More fields than are known are refused.
+pub fn same_fields(answers: &[u8], got: &[usize; 10]) -> bool
+    ensures { λ r. ⌜ (r ≡ true → AsFields (now (answers .entry)) (now (got .entry))) ⌝ }
 {
+    if 40 < answers.len() {
+        return false;
+    }
     let mut i: usize = 0;
-    while i < 10 {
-        if got[i] != count(rec, 56 + 4 * i) {
+    while 4 * i < answers.len() {
+        if got[i] != count(answers, 4 * i) {
             return false;
         }
         i += 1;
@@ -26,18 +30,18 @@ pub fn same_fields(rec: &[u8], got: &[usize; 10]) -> bool
 }
 
 // What a step list must hold at a place.
-fn wanted_step(rec: &[u8], n: usize, i: usize) -> u16
+fn wanted_step(codes: &[u8], n: usize, i: usize) -> u16
     requires { ⌜ n ≤ 9400 ⌝ }
-    ensures { λ r. ⌜ r ≡ wantedStep (now (rec .entry)) n i ⌝ }
+    ensures { λ r. ⌜ r ≡ wantedStep (now (codes .entry)) n i ⌝ }
 {
-    if i < n { code(rec, i) } else { pattern(i) }
+    if i < n { code(codes, i) } else { pattern(i) }
 }
 
-// Whether a step list holds the record's steps, and the rest is untouched.
-pub fn same_steps(rec: &[u8], steps: &[u16]) -> bool
-    ensures { λ r. ⌜ (r ≡ true → AsSteps (now (rec .entry)) (now (steps .entry))) ⌝ }
+// Whether a step list holds the codes, and the rest is untouched.
+pub fn same_steps(codes: &[u8], steps: &[u16]) -> bool
+    ensures { λ r. ⌜ (r ≡ true → AsSteps (now (codes .entry)) (length (now (codes .entry)) / 2) (now (steps .entry))) ⌝ }
 {
-    let n = count(rec, 96);
+    let n = codes.len() / 2;
     if file::STEPS < n {
         return false;
     }
@@ -46,7 +50,7 @@ pub fn same_steps(rec: &[u8], steps: &[u16]) -> bool
     }
     let mut i: usize = 0;
     while i < steps.len() {
-        if steps[i] != wanted_step(rec, n, i) {
+        if steps[i] != wanted_step(codes, n, i) {
             return false;
         }
         i += 1;
@@ -55,24 +59,23 @@ pub fn same_steps(rec: &[u8], steps: &[u16]) -> bool
 }
 
 // What a result list must hold at a place.
-fn wanted_key(rec: &[u8], n: usize, i: usize) -> u8
-    requires { ⌜ n ≤ 24 ⌝ }
-    ensures { λ r. ⌜ r ≡ wantedKey (now (rec .entry)) n i ⌝ }
+fn wanted_key(window: &[u8], i: usize) -> u8
+    ensures { λ r. ⌜ r ≡ wantedKey (now (window .entry)) i ⌝ }
 {
-    if i < n { byte(rec, 124 + i) } else { 201 }
+    if i < window.len() {
+        byte(window, i)
+    } else {
+        201
+    }
 }
 
-// Whether a result list holds the record's end window, and the rest is untouched.
-pub fn same_result(rec: &[u8], result: &[u8]) -> bool
-    ensures { λ r. ⌜ (r ≡ true → AsWindow (now (rec .entry)) (now (result .entry))) ⌝ }
+// Whether a result list holds the end window, and the rest is untouched.
+pub fn same_result(window: &[u8], result: &[u8]) -> bool
+    ensures { λ r. ⌜ (r ≡ true → AsWindow (now (window .entry)) (now (result .entry))) ⌝ }
 {
-    let n = count(rec, 64);
-    if 24 < n {
-        return false;
-    }
     let mut i: usize = 0;
     while i < result.len() {
-        if result[i] != wanted_key(rec, n, i) {
+        if result[i] != wanted_key(window, i) {
             return false;
         }
         i += 1;
@@ -80,12 +83,12 @@ pub fn same_result(rec: &[u8], result: &[u8]) -> bool
     true
 }
 
-pub fn same_answer(rec: &[u8], a: Answer) -> bool
-    ensures { λ r. ⌜ (r ≡ true → AsFields (now (rec .entry))
+pub fn same_answer(answers: &[u8], a: Answer) -> bool
+    ensures { λ r. ⌜ (r ≡ true → AsFields (now (answers .entry))
         (a .refusal ∷ a .found ∷ a .«step_count» ∷ a .«plan_gas» ∷ a .«plan_bytes» ∷ a .«ceiling_gas» ∷ a .«ceiling_bytes» ∷ a .origin ∷ a .ending ∷ a .expansions ∷ [])) ⌝ }
 {
     same_fields(
-        rec,
+        answers,
         &[
             a.refusal as usize,
             a.found as usize,
@@ -102,9 +105,9 @@ pub fn same_answer(rec: &[u8], a: Answer) -> bool
 }
 
 // A builder answers a refusal and a step count.
-pub fn same_count(rec: &[u8], refusal: u32, n: usize) -> bool
-    ensures { λ r. ⌜ (r ≡ true → AsFields (now (rec .entry)) (refusal ∷ n ∷ 0 ∷ 0 ∷ 0 ∷ 0 ∷ 0 ∷ 0 ∷ 0 ∷ 0 ∷ [])) ⌝ }
+pub fn same_count(answers: &[u8], refusal: u32, n: usize) -> bool
+    ensures { λ r. ⌜ (r ≡ true → AsFields (now (answers .entry)) (refusal ∷ n ∷ 0 ∷ 0 ∷ 0 ∷ 0 ∷ 0 ∷ 0 ∷ 0 ∷ 0 ∷ [])) ⌝ }
 {
     let got = [refusal as usize, n, 0, 0, 0, 0, 0, 0, 0, 0];
-    same_fields(rec, &got)
+    same_fields(answers, &got)
 }

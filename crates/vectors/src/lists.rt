@@ -127,15 +127,15 @@ pub fn price_list(bytes: &[u8], rec: &[u8]) -> [u32; 196]
 }
 
 // The steps that a record asks.
-pub fn load_steps(rec: &[u8], steps: &mut [u16])
-    ensures { λ _. ⌜ (length (now (steps .entry)) ≤ 9400 → Filled (codeAt (now (rec .entry))) (length (now (steps .entry))) (now (steps .exit))) ⌝ }
+pub fn load_steps(codes: &[u8], steps: &mut [u16])
+    ensures { λ _. ⌜ (length (now (steps .entry)) ≤ 9400 → Filled (codeAt (now (codes .entry))) (length (now (steps .entry))) (now (steps .exit))) ⌝ }
 {
     if file::STEPS < steps.len() {
         return;
     }
     let mut i: usize = 0;
     while i < steps.len() {
-        steps[i] = code(rec, i);
+        steps[i] = code(codes, i);
         i += 1;
     }
 }

@@ -8,8 +8,8 @@ use compare::same_count;
 use compare::same_fields;
 use compare::same_result;
 use compare::same_steps;
-use file::byte;
 use file::count;
+use file::field;
 use file::number;
 use file::part;
 use libc::STDOUT_FILENO;
@@ -24,7 +24,8 @@ ghost use mathlib.Core.Path.{_≡_};
 ghost use Prim.Native.Nat.{_+_, _≤_, _<_};
 ghost use lib.ListN.{length};
 
-// How many records are read, which differs first and how many differ.
+// How many records are read, which differs first and how many differ. Where the file is not sound: the record that cannot be read, and its
+// strange field.
 struct Tally {
     sound: bool,
     records: usize,
@@ -42,10 +43,10 @@ fn plan_as(
     heads: &mut [u64],
     list: &mut [u64],
 ) -> bool {
-    let q = file::limits_of(rec);
+    let q = file::limits_of(field(rec, file::LIMITS));
     let r = planner::plan(
-        file::start(rec),
-        file::goal(rec),
+        field(rec, file::START),
+        field(rec, file::GOAL),
         q.dup_max,
         q.swap_max,
         q.max_len,
@@ -59,8 +60,8 @@ fn plan_as(
         heads,
         list,
     );
-    if same_answer(rec, r) {
-        return same_steps(rec, steps);
+    if same_answer(field(rec, file::ANSWER), r) {
+        return same_steps(field(rec, file::PLAN), steps);
     }
     false
 }
@@ -88,10 +89,11 @@ fn check_plan(
     heads: &mut [u64],
     list: &mut [u64],
 ) -> bool {
-    let s = cut16(count(rec, 32), steps);
-    let n = cut64(count(rec, 36), nodes);
-    let h = cut64(count(rec, 40), heads);
-    let l = cut64(count(rec, 44), list);
+    let lent = field(rec, file::LENT);
+    let s = cut16(count(lent, 0), steps);
+    let n = cut64(count(lent, 4), nodes);
+    let h = cut64(count(lent, 8), heads);
+    let l = cut64(count(lent, 12), list);
     fresh_plan_as(
         rec,
         kinds,
@@ -105,9 +107,9 @@ fn check_plan(
 
 // Whether replay answers as the record says and writes the record's end window alone.
 fn replay_as(rec: &[u8], kinds: &[u8], steps: &[u16], result: &mut [u8]) -> bool {
-    let q = file::limits_of(rec);
+    let q = file::limits_of(field(rec, file::LIMITS));
     let r = replay::replay(
-        file::start(rec),
+        field(rec, file::START),
         steps,
         q.dup_max,
         q.swap_max,
@@ -116,8 +118,8 @@ fn replay_as(rec: &[u8], kinds: &[u8], steps: &[u16], result: &mut [u8]) -> bool
         result,
     );
     let got = [r.refusal as usize, r.index, r.length, 0, 0, 0, 0, 0, 0, 0];
-    if same_fields(rec, &got) {
-        return same_result(rec, result);
+    if same_fields(field(rec, file::ANSWER), &got) {
+        return same_result(field(rec, file::WINDOW), result);
     }
     false
 }
@@ -129,23 +131,24 @@ fn fresh_replay_as(rec: &[u8], kinds: &[u8], steps: &[u16], result: &mut [u8]) -
 
 fn check_replay(rec: &[u8], kinds: &[u8], steps: &[u16]) -> bool {
     let mut room = lists::result_room();
-    let n = cut8(count(rec, 32), &room);
+    let n = cut8(count(field(rec, file::LENT), 0), &room);
     fresh_replay_as(rec, kinds, steps, &mut room[..n])
 }
 
 fn check_mark(rec: &[u8], kinds: &[u8], prices: &[u32], steps: &[u16]) -> bool {
-    let q = file::limits_of(rec);
+    let q = file::limits_of(field(rec, file::LIMITS));
+    let ceiling = field(rec, file::CEILING);
     let r = marking::mark(
-        file::start(rec),
-        file::goal(rec),
+        field(rec, file::START),
+        field(rec, file::GOAL),
         steps,
         q.dup_max,
         q.swap_max,
         q.max_len,
         kinds,
         prices,
-        number(rec, 48),
-        number(rec, 52),
+        number(ceiling, 0),
+        number(ceiling, 4),
     );
     let got = [
         r.refusal as usize,
@@ -159,11 +162,11 @@ fn check_mark(rec: &[u8], kinds: &[u8], prices: &[u32], steps: &[u16]) -> bool {
         0,
         0,
     ];
-    same_fields(rec, &got)
+    same_fields(field(rec, file::ANSWER), &got)
 }
 
 fn check_pack(rec: &[u8]) -> bool {
-    let r = window::pack(file::start(rec));
+    let r = window::pack(field(rec, file::START));
     let low = r.lo as usize;
     let high = r.hi as usize;
     let got = [
@@ -178,21 +181,33 @@ fn check_pack(rec: &[u8]) -> bool {
         0,
         0,
     ];
-    same_fields(rec, &got)
+    same_fields(field(rec, file::ANSWER), &got)
 }
 
 fn star_as(rec: &[u8], steps: &mut [u16]) -> bool {
-    let r = star_swap::star_swap(file::start(rec), file::goal(rec), count(rec, 12), steps);
-    if same_count(rec, r.refusal, r.count) {
-        return same_steps(rec, steps);
+    let swap_max = count(field(rec, file::LIMITS), 4);
+    let r = star_swap::star_swap(
+        field(rec, file::START),
+        field(rec, file::GOAL),
+        swap_max,
+        steps,
+    );
+    if same_count(field(rec, file::ANSWER), r.refusal, r.count) {
+        return same_steps(field(rec, file::PLAN), steps);
     }
     false
 }
 
 fn tail_as(rec: &[u8], steps: &mut [u16]) -> bool {
-    let r = builders::delete_tail(file::start(rec), file::goal(rec), count(rec, 12), steps);
-    if same_count(rec, r.refusal, r.count) {
-        return same_steps(rec, steps);
+    let swap_max = count(field(rec, file::LIMITS), 4);
+    let r = builders::delete_tail(
+        field(rec, file::START),
+        field(rec, file::GOAL),
+        swap_max,
+        steps,
+    );
+    if same_count(field(rec, file::ANSWER), r.refusal, r.count) {
+        return same_steps(field(rec, file::PLAN), steps);
     }
     false
 }
@@ -207,13 +222,13 @@ fn built_as(rec: &[u8], star: bool, steps: &mut [u16]) -> bool {
 }
 
 fn check_built(rec: &[u8], star: bool, steps: &mut [u16]) -> bool {
-    let n = cut16(count(rec, 32), steps);
+    let n = cut16(count(field(rec, file::LENT), 0), steps);
     built_as(rec, star, &mut steps[..n])
 }
 
 // Replay, or else marking.
 fn asked_as(rec: &[u8], again: bool, kinds: &[u8], prices: &[u32], steps: &mut [u16]) -> bool {
-    lists::load_steps(rec, steps);
+    lists::load_steps(field(rec, file::ASKED), steps);
     if again {
         return check_replay(rec, kinds, steps);
     }
@@ -221,12 +236,12 @@ fn asked_as(rec: &[u8], again: bool, kinds: &[u8], prices: &[u32], steps: &mut [
 }
 
 fn check_asked(rec: &[u8], again: bool, kinds: &[u8], prices: &[u32], steps: &mut [u16]) -> bool {
-    let n = cut16(count(rec, 96), steps);
+    let n = cut16(field(rec, file::ASKED).len() / 2, steps);
     asked_as(rec, again, kinds, prices, &mut steps[..n])
 }
 
 // Every call but the planner's.
-fn check_other(rec: &[u8], call: u8, kinds: &[u8], prices: &[u32], steps: &mut [u16]) -> bool {
+fn check_other(rec: &[u8], call: usize, kinds: &[u8], prices: &[u32], steps: &mut [u16]) -> bool {
     if call < 3 {
         return check_asked(rec, call == 1, kinds, prices, steps);
     }
@@ -247,9 +262,9 @@ fn check_record(
 ) -> bool {
     let table = lists::price_list(bytes, rec);
     let kinds = file::kinds(bytes, rec);
-    let n = cut32(byte(rec, 5) as usize, &table);
+    let n = cut32(file::passed(field(rec, file::PASSED), 0, 196), &table);
     let prices = &table[..n];
-    let call = byte(rec, 0);
+    let call = file::short(rec, 4);
     if call == 0 {
         return check_plan(rec, kinds, prices, steps, nodes, heads, list);
     }
@@ -282,6 +297,15 @@ impl Tally {
     }
 }
 
+fn unreadable(records: usize, strange: usize) -> Tally {
+    Tally {
+        sound: false,
+        records,
+        first: strange,
+        wrong: 0,
+    }
+}
+
 // The records from a place on, one after the other.
 fn check_records(
     bytes: &[u8],
@@ -293,7 +317,7 @@ fn check_records(
 ) -> Tally
     requires { ⌜ from ≤ length (now bytes) ⌝ }
 {
-    let n = count(bytes, 16);
+    let n = count(bytes, 20);
     let mut at = from;
     let mut tally = Tally {
         sound: true,
@@ -304,12 +328,7 @@ fn check_records(
     while tally.records < n {
         let size = file::record_size(bytes, at);
         if size == 0 {
-            return Tally {
-                sound: false,
-                records: 0,
-                first: 0,
-                wrong: 0,
-            };
+            return unreadable(tally.records, file::strange_at(bytes, at));
         }
         let same = check_record(bytes, part(bytes, at, size), steps, nodes, heads, list);
         tally = tally.noted(same);
@@ -333,19 +352,26 @@ fn check_file(bytes: &[u8]) -> Tally {
     fill_work(&mut list, 7);
     let from = file::records_at(bytes);
     if from == 0 {
-        return Tally {
-            sound: false,
-            records: 0,
-            first: 0,
-            wrong: 0,
-        };
+        return unreadable(0, 0);
     }
     check_records(bytes, from, &mut steps, &mut nodes, &mut heads, &mut list)
 }
 
+// Which record cannot be read, and which of its fields is not known, if that is why.
+fn say_unreadable(record: usize, strange: usize) {
+    io::write_all(STDOUT_FILENO, b"unreadable at record ");
+    io::print_decimal(STDOUT_FILENO, record as u64);
+    if strange % 257 != 0 {
+        io::write_all(STDOUT_FILENO, b": field ");
+        io::print_decimal(STDOUT_FILENO, (strange - 1) as u64);
+        io::write_all(STDOUT_FILENO, b" is not known or out of order");
+    }
+    io::write_all(STDOUT_FILENO, b"\n");
+}
+
 fn say(tally: Tally) {
     if !tally.sound {
-        io::write_all(STDOUT_FILENO, b"unreadable\n");
+        say_unreadable(tally.records, tally.first);
         return;
     }
     if tally.wrong == 0 {

@@ -9,8 +9,7 @@ use super::{
     find_push0_kid, key_mask_from_counts, minimal_dup_gas, reconstruct_steps, run_bounded_astar,
     shims::{DataFlowGraph, Function},
 };
-use crate::question::Question;
-use nimskerf::sys::NimskerfAnswer;
+use crate::case::{Answer, CEILING, Case, ENDING, EXPANSIONS, FOUND, ORIGIN, PLAN_COST, STEP_COUNT};
 use std::cell::Cell;
 
 /// The price list as a cost model.
@@ -71,7 +70,7 @@ pub struct Prepared<'a> {
 
 impl<'a> Prepared<'a> {
     /// Of a question that no number refuses.
-    pub fn new(question: &'a Question<'_>) -> Self {
+    pub fn new(question: &'a Case) -> Self {
         let kinds: &[u8; 64] = question.tables.kinds.as_slice().try_into().expect("64 kinds");
         let prices: &[u32; 196] = question.tables.prices.as_slice().try_into().expect("196 prices");
         let limits = &question.limits;
@@ -152,28 +151,29 @@ pub struct Reference {
 }
 
 impl Reference {
-    /// The answer to a question that no number refuses, and its steps.
-    pub fn plan(&mut self, question: &Question<'_>) -> (NimskerfAnswer, Vec<u16>) {
+    /// The answer to a question that no number refuses.
+    pub fn plan(&mut self, question: &Case) -> Answer {
         let prepared = Prepared::new(question);
         let solved = self.solve(&prepared, Self::watched_run);
-        let mut answer =
-            NimskerfAnswer { ending: solved.ending, expansions: solved.expansions, ..NimskerfAnswer::default() };
+        let mut answer = Answer::default();
+        answer.fields[ENDING] = solved.ending.into();
+        answer.fields[EXPANSIONS] = solved.expansions as u64;
         let Some((steps, ceiling)) = solved.plan else {
-            return (answer, Vec::new());
+            return answer;
         };
         let cost = cost_for_steps(&steps, &prepared.key_infos, &prepared.prices);
-        answer.found = 1;
-        answer.step_count = steps.len();
-        answer.plan_gas = cost.gas;
-        answer.plan_bytes = cost.bytes;
-        answer.ceiling_gas = ceiling.gas;
-        answer.ceiling_bytes = ceiling.bytes;
-        answer.origin = match (solved.ending, solved.found_by_search) {
+        let origin = match (solved.ending, solved.found_by_search) {
             (0, _) => 0,
             (_, true) => 3,
             _ => prepared.builder_in_hand(&compute_goal_counts(prepared.goal_keys)),
         };
-        (answer, codes(&steps))
+        answer.fields[FOUND] = 1;
+        answer.fields[STEP_COUNT] = steps.len() as u64;
+        answer.fields[PLAN_COST..PLAN_COST + 2].copy_from_slice(&[cost.gas.into(), cost.bytes.into()]);
+        answer.fields[CEILING..CEILING + 2].copy_from_slice(&[ceiling.gas.into(), ceiling.bytes.into()]);
+        answer.fields[ORIGIN] = origin.into();
+        answer.plan = codes(&steps);
+        answer
     }
 
     /// The same work with nothing counted: what `bench` times. Returns the step count and the plan's gas.

@@ -28,6 +28,12 @@ loop-holds c = search needs
 record-size-requires : tie.Need-record-size-requires Inv-loop μ-loop
 record-size-requires c κs = search needs
 
+strange-at-requires : tie.Need-strange-at-requires Inv-loop μ-loop
+strange-at-requires c κs = search needs
+
+unreadable-requires : tie.Need-unreadable-requires Inv-loop μ-loop
+unreadable-requires c κs = search needs
+
 same-length : tie.Need-same-length Inv-loop μ-loop
 same-length c = search needs
 
@@ -57,7 +63,7 @@ add-at c =
     let b16 = c .before .before .before .before .before .before .before .before .before .before .before .before .before .before .before .before in
     let b26 = b16 .before .before .before .before .before .before .before .before .before .before in
     let read = b16 in
-    omega (arith, read .record-size .ensures, b26)
+    omega (arith, read .record-size .ensures .0, b26)
 
 loop-less : tie.Need-loop-less Inv-loop μ-loop
 loop-less c = search needs
@@ -66,7 +72,7 @@ loop-again : tie.Need-loop-again Inv-loop μ-loop
 loop-again c =
     let read = c .before .before .before .before .before .before .before .before .before .before .before .before .before .before .before .before in
     let l = c .before .before .before .before .before .before .before .before .before .before .before .before .before .before .before .before .before .before .before .loop in (
-      record { place = read .record-size .ensures; many = l .inv .0 .many; differ = c .noted .ensures .1 },
+      record { place = read .record-size .ensures .0; many = l .inv .0 .many; differ = c .noted .ensures .1 },
       c .before .before .before .before .before .before .before .before .steps .given ∙ l .inv .1,
       c .before .before .before .before .before .before .nodes .given ∙ l .inv .2,
       c .before .before .before .before .heads .given ∙ l .inv .3,
@@ -97,6 +103,8 @@ check-records-spec =
     count-requires
     loop-holds
     record-size-requires
+    strange-at-requires
+    unreadable-requires
     same-length
     same-length-2
     same-length-3

@@ -1,22 +1,19 @@
 -- The first i places hold what is wanted.
-use mathlib.Core.Path.{_∙_, subst, _≡_}
-use Prim.Native.Nat.{ℕ, _<_, _≤_, _-_}
+use mathlib.Core.Path.{_∙_, _≡_, subst}
+use Prim.Native.Nat.{ℕ, _<_, _≤_, _-_, _/_}
 use lib.ListN.{getD, length}
 use borrow.Author.Count.{below-more}
-use Rattle.vectors.specs.File.{numberAt, wantedStep}
+use Rattle.vectors.specs.File.{wantedStep}
 use native.Mathlib.Omega.{arith}
 use borrow.Author.Needs.{needs}
 use Rattle.vectors.proofs.compare.same_steps.Statement.{statement}
 use Rattle.vectors.proofs.compare.same_steps.Tie as tie
 
 abbrev Inv-loop : tie.InvT-loop
-Inv-loop rec steps n i₀ i = (i ≤ length steps) × (n ≤ 9400) × (n ≡ numberAt rec 96) × (n ≤ length steps) × ((k : ℕ) → k < i → getD steps k 0 ≡ wantedStep rec n k)
+Inv-loop codes steps n i₀ i = (i ≤ length steps) × (n ≤ 9400) × (n ≡ length codes / 2) × (n ≤ length steps) × ((k : ℕ) → k < i → getD steps k 0 ≡ wantedStep codes n k)
 
 abbrev μ-loop : tie.MeasureT-loop
-μ-loop rec steps n i₀ i = length steps - i
-
-count-requires : tie.Need-count-requires Inv-loop μ-loop
-count-requires c κs = search needs
+μ-loop codes steps n i₀ i = length steps - i
 
 returns : tie.Need-returns Inv-loop μ-loop
 returns c = λ e. let z : _≡_ {A = ℕ} 0 1 = cc in record { room = omega arith; each = λ k h. omega arith }
@@ -53,11 +50,11 @@ loop-again c =
 returns-4 : tie.Need-returns-4 Inv-loop μ-loop
 returns-4 c = λ e.
     let l = c .before .loop in
-    let a = c .before .before .before .before .before .before .before .args in
+    let a = c .before .before .before .before .before .before .args in
     record {
       room = subst (λ (m : ℕ). m ≤ length (a .steps .now)) (l .inv .2) (l .inv .3);
       each = λ k h.
-          subst (λ (m : ℕ). getD (a .steps .now) k 0 ≡ wantedStep (a .rec .now) m k) (l .inv .2) (l .inv .4 k (omega arith));
+          subst (λ (m : ℕ). getD (a .steps .now) k 0 ≡ wantedStep (a .codes .now) m k) (l .inv .2) (l .inv .4 k (omega arith));
     }
 
 pub same-steps-spec : {M : Type 1} → statement M
@@ -66,7 +63,6 @@ same-steps-spec =
     (tie.spec
     Inv-loop
     μ-loop
-    count-requires
     returns
     returns-2
     loop-holds

@@ -4,9 +4,6 @@ use borrow.Author.Needs.{needs}
 use Rattle.vectors.proofs.compare.wanted_key.Statement.{statement}
 use Rattle.vectors.proofs.compare.wanted_key.Tie as tie
 
-add-byte : tie.Need-add-byte
-add-byte c = search needs
-
 byte-requires : tie.Need-byte-requires
 byte-requires c κs = search needs
 
@@ -17,4 +14,4 @@ returns-2 : tie.Need-returns-2
 returns-2 c = rw (le-ltb _ _ (c .if1 .left))
 
 pub wanted-key-spec : {M : Type 1} → statement M
-wanted-key-spec = tie.close (tie.spec add-byte byte-requires returns returns-2)
+wanted-key-spec = tie.close (tie.spec byte-requires returns returns-2)

@@ -1,16 +1,19 @@
--- By what part, byte and count ensure.
+-- By what field, short, passed and part ensure.
 use borrow.Author.Needs.{needs}
 use Rattle.vectors.proofs.file.kinds.Statement.{statement}
 use Rattle.vectors.proofs.file.kinds.Tie as tie
 
-byte-requires : tie.Need-byte-requires
-byte-requires c κs = search needs
+field-requires : tie.Need-field-requires
+field-requires c κs = search needs
 
-cast-i : tie.Need-cast-i
-cast-i c = search needs
+short-requires : tie.Need-short-requires
+short-requires c κs = search needs
 
-count-requires : tie.Need-count-requires
-count-requires c κs = search needs
+short-requires-2 : tie.Need-short-requires-2
+short-requires-2 c κs = search needs
+
+short-requires-3 : tie.Need-short-requires-3
+short-requires-3 c κs = search needs
 
 mul-part : tie.Need-mul-part
 mul-part c = search needs
@@ -24,11 +27,11 @@ mul-part-2 c = search needs
 add-part-2 : tie.Need-add-part-2
 add-part-2 c = search needs
 
-byte-requires-2 : tie.Need-byte-requires-2
-byte-requires-2 c κs = search needs
+field-requires-2 : tie.Need-field-requires-2
+field-requires-2 c κs = search needs
 
-cast-part : tie.Need-cast-part
-cast-part c = search needs
+passed-requires : tie.Need-passed-requires
+passed-requires c κs = search needs
 
 part-requires : tie.Need-part-requires
 part-requires c κs = search needs
@@ -40,14 +43,15 @@ pub kinds-spec : {M : Type 1} → statement M
 kinds-spec =
     tie.close
     (tie.spec
-    byte-requires
-    cast-i
-    count-requires
+    field-requires
+    short-requires
+    short-requires-2
+    short-requires-3
     mul-part
     add-part
     mul-part-2
     add-part-2
-    byte-requires-2
-    cast-part
+    field-requires-2
+    passed-requires
     part-requires
     returns)

@@ -1,0 +1,148 @@
+//! The port's faces: each takes a case and lists, and gives the answer's refusal and fields.
+
+use crate::{
+    case::{Answer, Call, Case, Limits},
+    port::Lists,
+};
+use nimskerf::{
+    raw,
+    sys::{self, NimskerfAnswer, NimskerfBuilt, NimskerfMarked, NimskerfPacked, NimskerfReplayed},
+};
+use std::ptr;
+
+/// Functions by which the port is asked.
+pub struct Face {
+    pub name: &'static str,
+    pub call: fn(&Case, Lists<'_>) -> Answer,
+}
+
+/// Every question goes through each of these, in this order.
+pub const FACES: [Face; 2] = [Face { name: "proved", call: proved }, Face { name: "checked", call: checked }];
+
+/// The proved functions, on slices.
+fn proved(case: &Case, lists: Lists<'_>) -> Answer {
+    let Case { start, goal, steps, limits, tables, ceiling, .. } = case;
+    let (dup_max, swap_max, max_len) = (limits.dup_max, limits.swap_max, limits.max_len);
+    let (kinds, prices) = (&tables.kinds, &tables.prices);
+    match case.call {
+        Call::Plan => {
+            let lent = raw::Lists { steps: lists.steps, nodes: lists.nodes, heads: lists.heads, open: lists.open };
+            planned(raw::plan(start, goal, &raw_limits(limits), kinds, prices, lent))
+        }
+        Call::Replay => replayed(raw::replay(start, steps, dup_max, swap_max, max_len, kinds, lists.result)),
+        Call::Mark => {
+            let [gas, bytes] = *ceiling;
+            marked(raw::mark(start, goal, steps, dup_max, swap_max, max_len, kinds, prices, gas, bytes))
+        }
+        Call::Pack => packed(raw::pack(start)),
+        Call::StarSwap => built(raw::star_swap(start, goal, swap_max, lists.steps)),
+        Call::DeleteTail => built(raw::delete_tail(start, goal, swap_max, lists.steps)),
+    }
+}
+
+/// The limits as the crate `nimskerf` has them.
+pub fn raw_limits(limits: &Limits) -> raw::Limits {
+    let Limits { dup_max, swap_max, max_len, max_expansions, states_without, states_with } = *limits;
+    raw::Limits { dup_max, swap_max, max_len, max_expansions, states_without, states_with }
+}
+
+/// The functions of nimskerf.h, which check their pointers. An empty list is NULL.
+fn checked(case: &Case, lists: Lists<'_>) -> Answer {
+    let question = question(case);
+    let (steps, result) = (pointer_mut(lists.steps), pointer_mut(lists.result));
+    // SAFETY: every pointer comes from a slice with its own length, or is null with length 0; the lists that are
+    // written are `&mut`, so they overlap nothing.
+    unsafe {
+        match case.call {
+            Call::Plan => {
+                let lent = sys::NimskerfLists {
+                    steps,
+                    steps_len: lists.steps.len(),
+                    nodes: pointer_mut(lists.nodes),
+                    nodes_len: lists.nodes.len(),
+                    heads: pointer_mut(lists.heads),
+                    heads_len: lists.heads.len(),
+                    open: pointer_mut(lists.open),
+                    open_len: lists.open.len(),
+                };
+                planned(sys::nimskerf_plan(&question, &lent))
+            }
+            Call::Replay => {
+                let asked = pointer(&case.steps);
+                replayed(sys::nimskerf_replay(&question, asked, case.steps.len(), result, lists.result.len()))
+            }
+            Call::Mark => {
+                let [gas, bytes] = case.ceiling;
+                let ceiling = sys::NimskerfCost { gas, bytes };
+                marked(sys::nimskerf_mark(&question, pointer(&case.steps), case.steps.len(), ceiling))
+            }
+            Call::Pack => packed(sys::nimskerf_pack(pointer(&case.start), case.start.len())),
+            Call::StarSwap => built(sys::nimskerf_star_swap(&question, steps, lists.steps.len())),
+            Call::DeleteTail => built(sys::nimskerf_delete_tail(&question, steps, lists.steps.len())),
+        }
+    }
+}
+
+/// A case's question for the checked functions.
+fn question(case: &Case) -> sys::NimskerfQuestion {
+    let Case { start, goal, limits, tables, .. } = case;
+    sys::NimskerfQuestion {
+        start: pointer(start),
+        start_len: start.len(),
+        goal: pointer(goal),
+        goal_len: goal.len(),
+        dup_max: limits.dup_max,
+        swap_max: limits.swap_max,
+        max_len: limits.max_len,
+        max_expansions: limits.max_expansions,
+        states_without: limits.states_without,
+        states_with: limits.states_with,
+        kinds: pointer(&tables.kinds),
+        kinds_len: tables.kinds.len(),
+        prices: pointer(&tables.prices),
+        prices_len: tables.prices.len(),
+    }
+}
+
+fn pointer<T>(list: &[T]) -> *const T {
+    if list.is_empty() { ptr::null() } else { list.as_ptr() }
+}
+
+fn pointer_mut<T>(list: &mut [T]) -> *mut T {
+    if list.is_empty() { ptr::null_mut() } else { list.as_mut_ptr() }
+}
+
+fn planned(answer: NimskerfAnswer) -> Answer {
+    Answer::of(
+        answer.refusal,
+        [
+            answer.found.into(),
+            answer.step_count as u64,
+            answer.plan_gas.into(),
+            answer.plan_bytes.into(),
+            answer.ceiling_gas.into(),
+            answer.ceiling_bytes.into(),
+            answer.origin.into(),
+            answer.ending.into(),
+            answer.expansions as u64,
+        ],
+    )
+}
+
+fn replayed(answer: NimskerfReplayed) -> Answer {
+    Answer::of(answer.refusal, [answer.index as u64, answer.length as u64])
+}
+
+fn marked(answer: NimskerfMarked) -> Answer {
+    Answer::of(answer.refusal, [answer.index as u64, answer.mark.into()])
+}
+
+/// A packed window as four numbers of 32 bits, the lowest first.
+fn packed(answer: NimskerfPacked) -> Answer {
+    let (lo, hi) = (answer.lo, answer.hi);
+    Answer::of(answer.refusal, [lo & 0xffff_ffff, lo >> 32, hi & 0xffff_ffff, hi >> 32])
+}
+
+fn built(answer: NimskerfBuilt) -> Answer {
+    Answer::of(answer.refusal, [answer.count as u64])
+}
