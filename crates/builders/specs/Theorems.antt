@@ -113,7 +113,7 @@ module _ (sm : ℕ) (start goal : List ℕ) where
     pub never-fails : builderRefusal sm start goal places 0 ≡ 0 → Shortened sm start goal → tailRefusal sm start goal places ≡ 0
     never-fails h s = taken-refusal sm start goal places (10 if notTail sm start goal otherwise 0) (taken sm start goal places 0 h .0) ∙ rw (tail-is s)
 
--- * delete-tail 0 1 2 to 0 1: swap 2, pop, swap 1
+-- the starred example of delete-tail
 pub three-to-two : deleted 17 (0 ∷ 1 ∷ 2 ∷ []) (0 ∷ 1 ∷ []) (replicate 128 9) ≡ (record { refusal = 0; count = 3 }, 514 ∷ 0 ∷ 513 ∷ replicate 125 9)
 unfolding deleted builderRefusal notTail begins deleteTail uncovered bury pops does routed after run pick trailLoop trail lastOf circuits misplaced starSwaps
 three-to-two = refl

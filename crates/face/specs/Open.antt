@@ -1,5 +1,4 @@
--- The open list as a slice of entries, in the definitions of the search's open list. Document 01, "Forms the Rust cannot keep": one thin
--- face presents the open list as a slice of entries.
+-- The open list as a slice of entries, in the definitions of the search's open list (document 01, "Forms the Rust cannot keep": "then one thin").
 use mathlib.Core.Path.{_≡_}
 use mathlib.Core.Bool.{Bool, true, false, cond, _&&_}
 use mathlib.Core.List.{List, [], _∷_, map}

@@ -20,8 +20,7 @@ pub record Held : Type 0 where
   pub origin : ℕ
   pub plan : List ℕ
 
--- a builder's plan becomes the plan in hand if it costs no more than the bound so far, so a later one wins a tie; a builder that has none is
--- passed over
+-- a builder's plan takes the place of what is in hand unless it is dearer than the bound; where a builder has no plan nothing changes
 abbrev pub offered : List ℕ → ℕ → Option (List ℕ) → Held → Held
 offered prices origin none h = h
 offered prices origin (some plan) h =

@@ -58,7 +58,7 @@ pub fn add(a: u64, b: u64) -> u64
     x.saturating_add(y).packed()
 }
 
-// Whether f is cut off: at or above the bound with a plan in hand, above it without.
+// Whether f is cut off: it cannot improve on a plan in hand, or without one is above the bound.
 pub fn cut(held: Held, f: u64) -> bool
     ensures { λ r. ⌜ r ≡ cuts «gas-bytes» (handOf held) (costOf f) ⌝ }
 {
@@ -69,7 +69,7 @@ pub fn cut(held: Held, f: u64) -> bool
     }
 }
 
-// A goal is drawn at g: it is recorded if no plan is in hand or g is below the bound.
+// A goal is drawn at g: it is recorded unless a plan in hand is as cheap.
 pub fn goal_drawn(held: Held, g: u64) -> Held
     ensures { λ r. ⌜ handOf r ≡ recorded «gas-bytes» (costOf g) (handOf held) ⌝ }
 {

@@ -76,7 +76,7 @@ fieldsOf (some p) ending expansions =
 abbrev pub refused : ℕ → Answer
 refused n = bareOf n 0 0 0
 
--- the step list: its first entries are the plan and the rest is untouched
+-- the step list: the plan over its first places, behind it what stood there
 abbrev pub stepsWith : Option (Found Cost ℕ) → List ℕ → List ℕ
 stepsWith none old = old
 stepsWith (some p) old = p .steps ++ drop (length (p .steps)) old

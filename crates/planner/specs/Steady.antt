@@ -1,4 +1,4 @@
--- Demand 3: one claim about two answers of the planner, as its caller gets them.
+-- Demand 3: what two answers to one question have to do with each other, of their fields and step lists as callers hold them.
 use Prim.Native.Nat.{ℕ, zero, suc, _+_, _*_, _≤_, _<_}
 use mathlib.Core.Bool.{Bool, true, false}
 use mathlib.Core.List.{List, [], _∷_, _++_}

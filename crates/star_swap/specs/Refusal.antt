@@ -21,7 +21,7 @@ sameKeys [] (y ∷ b) = false
 sameKeys (x ∷ a) [] = false
 sameKeys (x ∷ a) (y ∷ b) = eqb x y && sameKeys a b
 
--- refusal 9: unequal lengths or key counts, or a misplaced position at swap_max or deeper
+-- refusal 9: the windows are no rearrangement of each other, or differ at a place that Swaps do not reach
 unfoldable pub unroutable : ℕ → List ℕ → List ℕ → Bool
 unroutable swapMax start goal =
     not (eqb (length start) (length goal)) || (not (sameCounts 64 start goal) || not (sameKeys (drop swapMax start) (drop swapMax goal)))

@@ -98,12 +98,12 @@ star-still (x ∷ w) = rw (misplaced-none 1 w) (circuits-none (at (x ∷ w)) (at
 abbrev three : ℕ → ℕ → ℕ → List ℕ
 three a b c = a ∷ b ∷ c ∷ []
 
--- * star-swap 0 1 2 to 0 2 1: swap 1, 2, 1
+-- the starred example of a circuit
 pub one-two-one : starSwapped 17 (three 0 1 2) (three 0 2 1) (replicate 128 9) ≡ (record { refusal = 0; count = 3 }, 513 ∷ 514 ∷ 513 ∷ replicate 125 9)
 unfolding starSwapped builderRefusal unroutable starSwaps trail trailLoop pick circuits lastOf misplaced
 one-two-one = refl
 
--- * to 1 2 0: swap 2, 1
+-- the starred example of a trail
 pub two-one : starSwapped 17 (three 0 1 2) (three 1 2 0) (replicate 128 9) ≡ (record { refusal = 0; count = 2 }, 514 ∷ 513 ∷ replicate 126 9)
 unfolding starSwapped builderRefusal unroutable starSwaps trail trailLoop pick circuits lastOf misplaced
 two-one = refl

@@ -1,4 +1,4 @@
--- The successors of a window, in order, as document 01 has them in "One turn of the search".
+-- The successors of a window, in their order (document 01, "One turn of the search": "Successors in order", "Skipped").
 use Prim.Native.Nat.{ℕ, _-_, min}
 use mathlib.Core.Bool.{Bool, _&&_, _||_, not}
 use mathlib.Core.List.{List, [], _∷_, _++_, reverse}
@@ -65,11 +65,11 @@ priceBy prices s = priceOf prices (Known s)
 abbrev pub pops : List ℕ → List Step
 pops w = offer (ltb 0 (length w)) Pop
 
--- push of zero, if the goal has it
+-- the push of the zero, where the goal wants one
 abbrev pub zeroAt : List ℕ → ℕ → List Step
 zeroAt kinds k = offer (kindIs kinds 2 k) (PushImm k)
 
--- Swaps by depth; skipped: the Swap just made, a Swap of equal keys, a Swap at depth in the common suffix, which starts at start, and below dup_max
+-- a Swap is offered unless it undoes the last step, changes nothing, or reaches into the common suffix (from start on) where a Dup could copy the key
 unfoldable pub swapOffered : List ℕ → (dupMax start last d : ℕ) → Bool
 swapOffered w dupMax start last d =
     ltb 0 d
@@ -84,7 +84,7 @@ swapAt w dupMax start last d = offer (swapOffered w dupMax start last d) (Swap d
 unfoldable pub goalZero : (kinds goal : List ℕ) → ℕ → Bool
 goalZero kinds goal k = kindIs kinds 2 k && has k goal
 
--- Dups by position; skipped: a key already dupped, the Dup of a zero that the goal has
+-- a Dup is offered for the highest place of each key, but not for a zero that the goal has
 unfoldable pub dupOffered : (kinds goal w : List ℕ) → ℕ → Bool
 dupOffered kinds goal w p = not (has (getD w p 0) (take p w)) && not (goalZero kinds goal (getD w p 0))
 
@@ -99,7 +99,7 @@ dupServes prices w k p = eqb (getD w p 0) k && noMore (priceBy prices (Dup p)) (
 unfoldable pub dominated : (prices w : List ℕ) → (reach k : ℕ) → Bool
 dominated prices w reach k = someBelow (dupServes prices w k) reach
 
--- other immediates; skipped: one not cheaper than its cheapest reachable Dup
+-- a push of another immediate is offered unless a Dup in reach makes the same key as cheaply
 unfoldable pub otherOffered : (kinds prices w : List ℕ) → (reach k : ℕ) → Bool
 otherOffered kinds prices w reach k = kindIs kinds 1 k && not (dominated prices w reach k)
 
@@ -110,14 +110,14 @@ otherAt kinds prices w reach k = offer (otherOffered kinds prices w reach k) (Pu
 unfoldable pub reached : List ℕ → (reach k : ℕ) → Bool
 reached w reach k = has k (take reach w)
 
--- values; skipped: a load of a key that a Dup reaches
+-- a load is offered unless a Dup reaches the key
 unfoldable pub loadOffered : (kinds w : List ℕ) → (reach k : ℕ) → Bool
 loadOffered kinds w reach k = kindIs kinds 0 k && not (reached w reach k)
 
 abbrev pub loadAt : (kinds w : List ℕ) → (reach k : ℕ) → List Step
 loadAt kinds w reach k = offer (loadOffered kinds w reach k) (LoadVal k)
 
--- each kind of step in its order: Swaps by depth, Dups by position, pushes and loads in goal order
+-- the steps of each kind: Swaps and Dups from the top down, pushes and loads as the goal names its keys
 abbrev pub swaps : List ℕ → (dupMax swapMax start last : ℕ) → List Step
 swaps w dupMax swapMax start last = upTo (swapAt w dupMax start last) (min (length w) swapMax)
 
@@ -133,7 +133,7 @@ others kinds prices keys w reach = each (otherAt kinds prices w reach) keys
 abbrev pub loads : (kinds keys w : List ℕ) → ℕ → List Step
 loads kinds keys w reach = each (loadAt kinds w reach) keys
 
--- at length max_len nothing that grows the window
+-- a full window does not grow
 abbrev pub grown : (maxLen n : ℕ) → List Step → List Step
 grown maxLen n steps = steps if room maxLen n otherwise []
 
