@@ -61,22 +61,22 @@ module _ (K : CostAlgebra) (Q : Problem K) (A : Allowance) where
 
   module _ (priced : Q .Step → K .C) (few dear : ℕ) (B : Bounded K Q few dear) (bound : K .C) (held : Option (Found (K .C) (Q .Step))) where
     -- no more expansions than allowed, and an ending of 0 to 5
-    pub record Told (r : Answer (K .C) (Q .Step)) : Type 0 where
+    pub record InBounds (r : Answer (K .C) (Q .Step)) : Type 0 where
       pub few-expansions : r .expansions ≤ A .expansions
       pub ending-most : r .ending ≤ 5
 
-    search-told : Told (searched K Q priced few bound held A)
+    search-in-bounds : InBounds (searched K Q priced few bound held A)
     unfolding searched begin
-    search-told =
+    search-in-bounds =
         let d : Done K Q few dear B A (first K Q priced few bound held) (run K Q A (enough K Q few A) (first K Q priced few bound held)) = search-ends K Q few dear B A bound (given held) in
         record {
           few-expansions = reach-counted (d .ends .reached) (omega arith);
           ending-most = subst (λ (o : Option Ending). numbered o ≤ 5) (sym (d .ended)) (stop-named _ (d .ending) (d .ends .stopped));
         }
 
-    pub planned-told : Told (planned K Q priced few bound held A)
+    pub planned-in-bounds : InBounds (planned K Q priced few bound held A)
     unfolding planned begin
-    planned-told =
-        by-cond Told (eqb (Q .start) (Q .goal))
+    planned-in-bounds =
+        by-cond InBounds (eqb (Q .start) (Q .goal))
         (λ _. record { few-expansions = omega arith; ending-most = omega arith })
-        (λ _. by-cond Told (eqb (A .expansions) 0) (λ _. record { few-expansions = omega arith; ending-most = omega arith }) (λ _. search-told))
+        (λ _. by-cond InBounds (eqb (A .expansions) 0) (λ _. record { few-expansions = omega arith; ending-most = omega arith }) (λ _. search-in-bounds))

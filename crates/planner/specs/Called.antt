@@ -16,7 +16,7 @@ use Rattle.replay.specs.Machine.{ends, ranOn}
 use Rattle.marking.specs.Marking.{marked}
 use Rattle.algebra.specs.GasBytes.{gas-bytes}
 use Rattle.astar.specs.Planner.{Found, Answer as Answered}
-use Rattle.astar.specs.Counted.{Told, planned-told}
+use Rattle.astar.specs.Counted.{planned-in-bounds}
 use Rattle.problem.specs.Problem.{problemOf, bounded}
 use Rattle.planner.specs.Refusal.{Asked, Lent, planRefusal}
 use Rattle.planner.specs.Planned.{questionOf, listed, planHeld, before, answered, fieldsOf, refused, stepsWith, plannedFor}
@@ -30,28 +30,27 @@ use Rattle.planner.specs.declared.Answer.{Answer}
 -- ---- expansions and ending, of every answer
 
 -- no more expansions than allowed (document 01, "Then the state is expanded"), and an ending of 0 to 5
-pub record Bounded (a : Asked) (r : Answer) : Type 0 where
+pub record InBounds (a : Asked) (r : Answer) : Type 0 where
   pub few-expansions : r .expansions ≤ a .allowance .expansions
   pub ending-most : r .ending ≤ 5
 
-fields-bounded : (a : Asked) (o : Option (Found Cost ℕ)) (e x : ℕ) → x ≤ a .allowance .expansions → e ≤ 5 → Bounded a (fieldsOf o e x)
+fields-bounded : (a : Asked) (o : Option (Found Cost ℕ)) (e x : ℕ) → x ≤ a .allowance .expansions → e ≤ 5 → InBounds a (fieldsOf o e x)
 fields-bounded a none e x h k = record { few-expansions = h; ending-most = k }
 fields-bounded a (some p) e x h k = record { few-expansions = h; ending-most = k }
 
-accepted-bounded : (a : Asked) (l : Lent) → Accepted a l → Bounded a (fieldsOf (answered a .plan) (answered a .ending) (answered a .expansions))
+accepted-bounded : (a : Asked) (l : Lent) → Accepted a l → InBounds a (fieldsOf (answered a .plan) (answered a .ending) (answered a .expansions))
 unfolding answered
 accepted-bounded a l ok =
-    let t : Told gas-bytes (problemOf (questionOf a) (a .start)) (a .allowance) (listed (a .prices)) 50 30000
-    (bounded (questionOf a) (a .start) (bounds a l ok) (ok .prices)) (before a .bound) (planHeld (before a)) (answered a) =
-    planned-told gas-bytes (problemOf (questionOf a) (a .start)) (a .allowance) (listed (a .prices)) 50 30000 (bounded (questionOf a) (a .start) (bounds a l ok) (ok .prices)) (before a .bound) (planHeld (before a)) in
+    let b = bounded (questionOf a) (a .start) (bounds a l ok) (ok .prices) in
+    let t = planned-in-bounds gas-bytes (problemOf (questionOf a) (a .start)) (a .allowance) (listed (a .prices)) 50 30000 b (before a .bound) (planHeld (before a)) in
     fields-bounded a (answered a .plan) (answered a .ending) (answered a .expansions) (t .few-expansions) (t .ending-most)
 
-chosen-bounded : (a : Asked) (t : Answer × List ℕ) (xs : List ℕ) (n : ℕ) → (n ≡ 0 → Bounded a (t .0)) → Bounded a ((t if eqb n 0 otherwise (refused n, xs)) .0)
+chosen-bounded : (a : Asked) (t : Answer × List ℕ) (xs : List ℕ) (n : ℕ) → (n ≡ 0 → InBounds a (t .0)) → InBounds a ((t if eqb n 0 otherwise (refused n, xs)) .0)
 chosen-bounded a t xs zero h = h refl
 chosen-bounded a t xs (suc n) h = let k : eqb (suc n) 0 ≡ false = ne-eqb (suc n) 0 (λ e. omega arith) in rw k (record { few-expansions = omega arith; ending-most = omega arith })
 
 -- on all input, refused input too
-pub answer-bounded : (a : Asked) (l : Lent) (steps : List ℕ) → Bounded a (plannedFor a l steps .0)
+pub answer-bounded : (a : Asked) (l : Lent) (steps : List ℕ) → InBounds a (plannedFor a l steps .0)
 unfolding plannedFor
 answer-bounded a l steps =
     chosen-bounded a (given (answered a) steps) steps (planRefusal a l) (λ h. accepted-bounded a l (accepted a l h))
