@@ -1,4 +1,4 @@
-/* Asks a question, plans, and marks a right, a dear and a wrong answer.
+/* Asks a question, plans, and marks a right, a dear, a wrong and a forbidden answer.
  *
  *     cc exam.c $(pkg-config --cflags --libs nimskerf) -o exam
  */
@@ -17,14 +17,21 @@ static void print_steps(const char *whose, const uint16_t *steps, size_t count)
     printf("\n");
 }
 
+static void print_highest(size_t highest)
+{
+    printf("  At its highest the window had %zu keys.\n", highest);
+}
+
 static void mark(const NimskerfQuestion *question, NimskerfCost pass_mark, const uint16_t *answer, size_t count)
 {
     NimskerfMarked marked = nimskerf_mark(question, answer, count, pass_mark);
     print_steps("An answer", answer, count);
-    if (marked.refusal != NIMSKERF_REFUSAL_NONE)
+    if (marked.refusal != NIMSKERF_REFUSAL_NONE) {
         printf("  Step %zu: %s\n", marked.index, nimskerf_refusal_text(marked.refusal));
-    else
-        printf("  %s\n", nimskerf_mark_text(marked.mark));
+        return;
+    }
+    printf("  %s\n", nimskerf_mark_text(marked.mark));
+    print_highest(marked.highest);
 }
 
 int main(void)
@@ -50,11 +57,13 @@ int main(void)
     }
     print_steps("The plan", steps, answer.step_count);
     printf("  %s\n  %s\n", nimskerf_origin_text(answer.origin), nimskerf_ending_text(answer.ending));
+    print_highest(answer.highest);
     printf("The pass mark: %u gas, %u bytes\n", (unsigned)answer.ceiling.gas, (unsigned)answer.ceiling.bytes);
 
     const uint16_t pop = nimskerf_step(NIMSKERF_STEP_POP, 0), swap2 = nimskerf_step(NIMSKERF_STEP_SWAP, 2);
-    const uint16_t load0 = nimskerf_step(NIMSKERF_STEP_LOAD, 0), dup9 = nimskerf_step(NIMSKERF_STEP_DUP, 9);
-    const uint16_t right[] = {swap2, pop, pop}, dear[] = {pop, pop, pop, load0}, wrong[] = {pop, pop};
+    const uint16_t dup0 = nimskerf_step(NIMSKERF_STEP_DUP, 0), swap3 = nimskerf_step(NIMSKERF_STEP_SWAP, 3);
+    const uint16_t dup9 = nimskerf_step(NIMSKERF_STEP_DUP, 9);
+    const uint16_t right[] = {swap2, pop, pop}, dear[] = {dup0, swap3, pop, pop, pop}, wrong[] = {pop, pop};
     const uint16_t not_allowed[] = {pop, dup9};
     mark(&question, answer.ceiling, LIST(right));
     mark(&question, answer.ceiling, LIST(dear));

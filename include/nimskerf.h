@@ -27,7 +27,7 @@
 extern "C" {
 #endif
 
-#define NIMSKERF_VERSION "0.1.0"
+#define NIMSKERF_VERSION "0.2.0"
 
 /* Limits of a question. */
 #define NIMSKERF_DUP_MAX 16          /* The greatest dup_max. */
@@ -161,7 +161,7 @@ typedef struct {
     size_t open_len;
 } NimskerfLists;
 
-/* The planner's answer. Without a plan found, step_count, plan, ceiling and origin are 0. */
+/* The planner's answer. Without a plan found, step_count, plan, ceiling, origin and highest are 0. */
 typedef struct {
     uint32_t refusal;     /* NIMSKERF_REFUSAL_... */
     uint32_t found;       /* 1 if there is a plan, otherwise 0. */
@@ -172,6 +172,7 @@ typedef struct {
     uint32_t origin;      /* NIMSKERF_ORIGIN_... */
     uint32_t ending;      /* NIMSKERF_ENDING_... */
     size_t expansions;    /* How many states were expanded, at most max_expansions. */
+    size_t highest;       /* The greatest length of a window on the plan's way, the start included. */
 } NimskerfAnswer;
 
 /* Replay's answer. */
@@ -179,6 +180,7 @@ typedef struct {
     uint32_t refusal; /* NIMSKERF_REFUSAL_... */
     size_t index;     /* At refusal 8 the index of the first step that is not allowed, otherwise 0. */
     size_t length;    /* The length of the end window, the first entries of the result list. */
+    size_t highest;   /* The greatest length that the window reached, the start included. */
 } NimskerfReplayed;
 
 /* Marking's answer. */
@@ -186,6 +188,7 @@ typedef struct {
     uint32_t refusal; /* NIMSKERF_REFUSAL_... */
     size_t index;     /* At refusal 8 the index of the first step that is not allowed, otherwise 0. */
     uint32_t mark;    /* NIMSKERF_MARK_... */
+    size_t highest;   /* At every mark the greatest length that the window reached, the start included. */
 } NimskerfMarked;
 
 /* Packing's answer: six bits per key, top lowest, a marker bit above. */

@@ -20,6 +20,7 @@ static const uint8_t START[64] = {6, 6, 3, 0, 2, 6, 2};
 static const uint8_t GOAL[64] = {3, 5, 2};
 static const uint8_t FIRST[64] = {0, 1, 2, 3, 4};
 static const uint8_t TURNED[64] = {4, 2, 0, 1, 3};
+static const uint8_t MENDED[64] = {0, 33, 2, 3, 4};
 
 static void fill(void)
 {
@@ -81,9 +82,9 @@ static void print_answer(const char *name, const char *through, NimskerfAnswer a
 {
     printf(
         "plan, %s, %s: refusal %" PRIu32 " found %" PRIu32 " step_count %zu plan %" PRIu32 "/%" PRIu32
-        " ceiling %" PRIu32 "/%" PRIu32 " origin %" PRIu32 " ending %" PRIu32 " expansions %zu lists %s",
+        " ceiling %" PRIu32 "/%" PRIu32 " origin %" PRIu32 " ending %" PRIu32 " expansions %zu highest %zu lists %s",
         name, through, a.refusal, a.found, a.step_count, a.plan.gas, a.plan.bytes, a.ceiling.gas, a.ceiling.bytes,
-        a.origin, a.ending, a.expansions,
+        a.origin, a.ending, a.expansions, a.highest,
         kept(nodes, 8, ROOM, ENTRIES * 8) && kept(heads, 8, ROOM, ENTRIES) && kept(open_list, 8, ROOM, ENTRIES * 4)
             ? "kept"
             : "OVERRUN");
@@ -139,12 +140,20 @@ static void plans(void)
     q.swap_max = 5;
     q.max_len = 6;
     plan("narrow", &q);
+
+    q = question_of(FIRST, 5, MENDED, 5);
+    q.max_expansions = 90;
+    q.states_without = 400;
+    q.states_with = 300;
+    plan("climbing", &q);
+    q.goal = FIRST;
+    plan("equal", &q);
 }
 
 static void print_replayed(const char *name, const char *through, NimskerfReplayed r)
 {
-    printf("replay, %s, %s: refusal %" PRIu32 " index %zu length %zu result", name, through, r.refusal, r.index,
-           r.length);
+    printf("replay, %s, %s: refusal %" PRIu32 " index %zu length %zu highest %zu result", name, through, r.refusal,
+           r.index, r.length, r.highest);
     for (size_t i = 0; i < r.length; i++)
         printf(" %u", (unsigned)result[i]);
     printf(" then %s\n", kept(result, 1, sizeof result, r.length) ? "untouched" : "TOUCHED");
@@ -164,7 +173,8 @@ static void replay(const char *name, const NimskerfQuestion *q, const uint16_t *
 
 static void print_marked(const char *name, const char *through, NimskerfMarked m)
 {
-    printf("mark, %s, %s: refusal %" PRIu32 " index %zu mark %" PRIu32 "\n", name, through, m.refusal, m.index, m.mark);
+    printf("mark, %s, %s: refusal %" PRIu32 " index %zu mark %" PRIu32 " highest %zu\n", name, through, m.refusal,
+           m.index, m.mark, m.highest);
 }
 
 static void mark(const char *name, const NimskerfQuestion *q, const uint16_t *codes, size_t count, NimskerfCost ceiling)
@@ -316,14 +326,17 @@ static void layouts(void)
     PLACE(NimskerfAnswer, origin);
     PLACE(NimskerfAnswer, ending);
     PLACE(NimskerfAnswer, expansions);
+    PLACE(NimskerfAnswer, highest);
     SIZE(NimskerfReplayed);
     PLACE(NimskerfReplayed, refusal);
     PLACE(NimskerfReplayed, index);
     PLACE(NimskerfReplayed, length);
+    PLACE(NimskerfReplayed, highest);
     SIZE(NimskerfMarked);
     PLACE(NimskerfMarked, refusal);
     PLACE(NimskerfMarked, index);
     PLACE(NimskerfMarked, mark);
+    PLACE(NimskerfMarked, highest);
     SIZE(NimskerfPacked);
     PLACE(NimskerfPacked, refusal);
     PLACE(NimskerfPacked, lo);

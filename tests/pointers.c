@@ -61,7 +61,7 @@ static Outcome plan(const Call *c)
     return (Outcome){
         a.refusal, 0,
         !(a.found || a.step_count || a.plan.gas || a.plan.bytes || a.ceiling.gas || a.ceiling.bytes || a.origin ||
-          a.ending || a.expansions)};
+          a.ending || a.expansions || a.highest)};
 }
 
 static Outcome replay(const Call *c)
@@ -69,7 +69,7 @@ static Outcome replay(const Call *c)
     NimskerfQuestion q = question_of(c);
     NimskerfReplayed r = nimskerf_replay(
         &q, (void *)c->lists[CODES].at, c->lists[CODES].len, c->lists[RESULT].at, c->lists[RESULT].len);
-    return (Outcome){r.refusal, r.index, r.length == 0};
+    return (Outcome){r.refusal, r.index, r.length == 0 && r.highest == 0};
 }
 
 static Outcome mark(const Call *c)
@@ -77,7 +77,7 @@ static Outcome mark(const Call *c)
     NimskerfQuestion q = question_of(c);
     NimskerfCost ceiling = {0, 0};
     NimskerfMarked m = nimskerf_mark(&q, (void *)c->lists[CODES].at, c->lists[CODES].len, ceiling);
-    return (Outcome){m.refusal, m.index, m.mark == 0};
+    return (Outcome){m.refusal, m.index, m.mark == 0 && m.highest == 0};
 }
 
 static Outcome pack(const Call *c)

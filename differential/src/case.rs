@@ -2,7 +2,8 @@
 //!
 //! A field that a question gains has one place each: here (and in [`Case::taken`]), in `faces` (how it is passed), in
 //! `reference` and `model` (what must be answered), in `command` (its word), in `shrink` (how it is made smaller) and in
-//! `record` (its tag). A field that an answer gains: [`Call::fields`], `faces`, `reference` and `model`.
+//! `record` (its tag). A field that an answer gains: [`Call::fields`], `faces`, `reference` and `model`, or `expect` for
+//! one of the planner's that the Rust does not have.
 
 use std::sync::Arc;
 
@@ -32,16 +33,26 @@ impl Call {
     pub fn fields(self) -> &'static [&'static str] {
         match self {
             Self::Plan => &PLAN_FIELDS,
-            Self::Replay => &["index", "length"],
-            Self::Mark => &["index", "mark"],
+            Self::Replay => &["index", "length", "highest"],
+            Self::Mark => &["index", "mark", "highest"],
             Self::Pack => &["bits 0 to 31", "bits 32 to 63", "bits 64 to 95", "bits 96 to 127"],
             Self::StarSwap | Self::DeleteTail => &["step count"],
         }
     }
 }
 
-const PLAN_FIELDS: [&str; 9] =
-    ["found", "step count", "plan gas", "plan bytes", "ceiling gas", "ceiling bytes", "origin", "ending", "expansions"];
+const PLAN_FIELDS: [&str; 10] = [
+    "found",
+    "step count",
+    "plan gas",
+    "plan bytes",
+    "ceiling gas",
+    "ceiling bytes",
+    "origin",
+    "ending",
+    "expansions",
+    "highest",
+];
 
 /// Places of some of the planner's fields.
 pub const FOUND: usize = 0;
@@ -51,6 +62,10 @@ pub const CEILING: usize = 4;
 pub const ORIGIN: usize = 6;
 pub const ENDING: usize = 7;
 pub const EXPANSIONS: usize = 8;
+pub const HIGHEST: usize = 9;
+
+/// The place of the highest window among the fields of replay and of marking.
+pub const HIGHEST_REPLAYED: usize = 2;
 
 /// Reaches, greatest length and allowances.
 #[derive(Clone, Copy, Debug, Default, PartialEq, Eq)]

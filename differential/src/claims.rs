@@ -1,7 +1,7 @@
 //! Demand 3 on pairs of answers, each compared with the Rust; replay and marking of each plan.
 
 use crate::{
-    case::{Answer, CEILING, Call, Case, ENDING, FOUND, PLAN_COST},
+    case::{Answer, CEILING, Call, Case, ENDING, FOUND, HIGHEST, HIGHEST_REPLAYED, PLAN_COST},
     compare::{Run, Sides},
     draw::{self, Random},
     port,
@@ -67,7 +67,8 @@ fn claim(one: &Answer, two: &Answer) -> Vec<&'static str> {
     broken
 }
 
-/// What holds of each answer: its plan replays, costs what it says, and passes its own ceiling.
+/// What holds of each answer: its plan replays with the highest window that it says, costs what it says, and passes its
+/// own ceiling.
 fn sound(case: &Case, answer: &Answer, sides: &mut Sides, random: &mut Random) -> Vec<&'static str> {
     let mut broken = Vec::new();
     if answer.refusal != 0 || answer.fields[FOUND] == 0 {
@@ -83,23 +84,27 @@ fn sound(case: &Case, answer: &Answer, sides: &mut Sides, random: &mut Random) -
     if replayed.refusal != 0 || replayed.window != case.goal {
         broken.push("the plan does not replay to the goal");
     }
+    let highest = answer.fields[HIGHEST];
+    if replayed.fields[HIGHEST_REPLAYED] != highest {
+        broken.push("the plan's highest window is not that of its replay");
+    }
     of_plan.call = Call::Mark;
     of_plan.lent = of_plan.least();
     let mut mark = |(gas, bytes): (u64, u64)| {
         of_plan.ceiling = [gas, bytes].map(|part| part.min(u32::MAX.into()) as u32);
         let marked = sides.compare(&of_plan, random).answer;
-        (marked.refusal, marked.fields[1])
+        (marked.refusal, marked.fields[1], marked.fields[HIGHEST_REPLAYED])
     };
-    if mark(ceiling) != (0, 0) || mark(cost) != (0, 0) {
-        broken.push("the plan does not pass its ceiling or its cost");
+    if mark(ceiling) != (0, 0, highest) || mark(cost) != (0, 0, highest) {
+        broken.push("the plan does not pass its ceiling or its cost, or not with its highest window");
     }
     let below = match cost {
         (0, 0) => return broken,
         (gas, 0) => (gas - 1, u32::MAX.into()),
         (gas, bytes) => (gas, bytes - 1),
     };
-    if mark(below) != (0, 2) {
-        broken.push("the plan passes a ceiling below its cost");
+    if mark(below) != (0, 2, highest) {
+        broken.push("the plan passes a ceiling below its cost, or is not too dear with its highest window");
     }
     broken
 }

@@ -1,19 +1,20 @@
-//! What a call must answer: by the Rust's own text where it has the call, otherwise by the model.
+//! What a call must answer: by the Rust's own text where it has the call or the field, otherwise by the model.
 
 use crate::{
-    case::{Answer, Call, Case},
+    case::{Answer, Call, Case, FOUND, HIGHEST},
     model,
     reference::{self, Reference},
 };
 
-/// Stands for a refusal where the model and the Rust disagree on whether there is an answer: no port gives it.
+/// Stands for a refusal where the model and the Rust disagree on whether there is an answer, or on whether a plan leads to
+/// the goal: no port gives it.
 const DISAGREE: u32 = u32::MAX;
 
 /// The answer that is expected, with what must be written.
 pub fn answer(case: &Case, reference: &mut Reference) -> Answer {
     let refusal = model::refusal(case);
     match (case.call, refusal) {
-        (Call::Plan, 0) => reference.plan(case),
+        (Call::Plan, 0) => with_highest(case, reference.plan(case)),
         (Call::Replay, 0) => model::replay(case),
         (Call::Mark, 0) => model::mark(case),
         (Call::Pack, _) => agreed(refusal, reference::pack(&case.start).map(packed)),
@@ -25,6 +26,18 @@ pub fn answer(case: &Case, reference: &mut Reference) -> Answer {
         }
         _ => Answer::refused(refusal),
     }
+}
+
+/// The Rust's answer with the highest window of its own plan, as the model follows the steps; 0 without a plan.
+fn with_highest(case: &Case, mut answer: Answer) -> Answer {
+    if answer.fields[FOUND] == 0 {
+        return answer;
+    }
+    match model::highest(case, &answer.plan) {
+        Some(highest) => answer.fields[HIGHEST] = highest,
+        None => return Answer::refused(DISAGREE),
+    }
+    answer
 }
 
 /// The Rust's answer, where it has one exactly if the model does not refuse.

@@ -125,16 +125,17 @@ fn planned(answer: NimskerfAnswer) -> Answer {
             answer.origin.into(),
             answer.ending.into(),
             answer.expansions as u64,
+            answer.highest as u64,
         ],
     )
 }
 
 fn replayed(answer: NimskerfReplayed) -> Answer {
-    Answer::of(answer.refusal, [answer.index as u64, answer.length as u64])
+    Answer::of(answer.refusal, [answer.index as u64, answer.length as u64, answer.highest as u64])
 }
 
 fn marked(answer: NimskerfMarked) -> Answer {
-    Answer::of(answer.refusal, [answer.index as u64, answer.mark.into()])
+    Answer::of(answer.refusal, [answer.index as u64, answer.mark.into(), answer.highest as u64])
 }
 
 /// A packed window as four numbers of 32 bits, the lowest first.

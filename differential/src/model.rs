@@ -1,4 +1,5 @@
-//! Refusals, replay and marking, written from document 01, apart from the port and the reference.
+//! Refusals, replay, marking and the highest window, written from document 01 and the change requests, apart from the port
+//! and the reference.
 
 use crate::case::{Answer, Call, Case, DUP, KEY, POP, SWAP};
 
@@ -120,25 +121,36 @@ fn after(case: &Case, window: &[u8], code: u16) -> Option<Vec<u8>> {
     }
 }
 
-/// What the steps of an accepted call do.
+/// What steps do from an accepted call's start.
 struct Run {
     window: Vec<u8>,
+    /// The greatest length of the windows passed, the start and the end among them.
+    highest: u64,
 }
 
 /// Follows the steps, or gives the index of the first that is not allowed.
-fn run(case: &Case) -> Result<Run, usize> {
+fn run(case: &Case, steps: &[u16]) -> Result<Run, usize> {
     let mut window = case.start.clone();
-    for (index, &code) in case.steps.iter().enumerate() {
+    let mut highest = window.len();
+    for (index, &code) in steps.iter().enumerate() {
         window = after(case, &window, code).ok_or(index)?;
+        highest = highest.max(window.len());
     }
-    Ok(Run { window })
+    Ok(Run { window, highest: highest as u64 })
+}
+
+/// The highest window on a plan's way from the start to the goal, none where the plan does not lead there.
+pub fn highest(case: &Case, plan: &[u16]) -> Option<u64> {
+    run(case, plan).ok().filter(|run| run.window == case.goal).map(|run| run.highest)
 }
 
 /// Replay's answer and the end window, past the numbers below 8.
 pub fn replay(case: &Case) -> Answer {
-    match run(case) {
-        Ok(Run { window }) => Answer { window: window.clone(), ..Answer::of(0, [0, window.len() as u64]) },
-        Err(index) => Answer::of(8, [index as u64, 0]),
+    match run(case, &case.steps) {
+        Ok(Run { window, highest }) => {
+            Answer { window: window.clone(), ..Answer::of(0, [0, window.len() as u64, highest]) }
+        }
+        Err(index) => Answer::of(8, [index as u64]),
     }
 }
 
@@ -154,11 +166,16 @@ pub fn cost(steps: &[u16], prices: &[u32]) -> (u32, u32) {
 /// Marking's answer, past the numbers below 8.
 pub fn mark(case: &Case) -> Answer {
     let [gas, bytes] = case.ceiling;
-    let mark = match run(case) {
-        Err(index) => return Answer::of(8, [index as u64, 0]),
-        Ok(Run { window }) if window != case.goal => 1,
-        Ok(_) if cost(&case.steps, &case.tables.prices) > (gas, bytes) => 2,
-        Ok(_) => 0,
+    let run = match run(case, &case.steps) {
+        Ok(run) => run,
+        Err(index) => return Answer::of(8, [index as u64]),
     };
-    Answer::of(0, [0, mark])
+    let mark = if run.window != case.goal {
+        1
+    } else if cost(&case.steps, &case.tables.prices) > (gas, bytes) {
+        2
+    } else {
+        0
+    };
+    Answer::of(0, [0, mark, run.highest])
 }

@@ -20,16 +20,23 @@ pub fn run(threads: usize) -> bool {
     for run in runs() {
         good &= part(&run, threads);
     }
-    good & line("vectors", vectors_as_written)
+    let (records, written) = vectors::made();
+    good &= line("vectors", || vectors_as_written(&written));
+    good & line("older vectors", || replayed(&vectors::older(records)))
 }
 
 /// The file is what `vectors` writes, and the port answers as it says.
-fn vectors_as_written() -> Result<String, String> {
+fn vectors_as_written(written: &[u8]) -> Result<String, String> {
     let file = fs::read(Path::new(VECTORS)).map_err(|error| error.to_string())?;
-    if file != vectors::made().1 {
+    if file != written {
         return Err("the file is not what `vectors` writes".into());
     }
-    match vectors::replay_bytes(&file)? {
+    replayed(&file)
+}
+
+/// The port answers as a list says.
+fn replayed(file: &[u8]) -> Result<String, String> {
+    match vectors::replay_bytes(file)? {
         (passed, 0) => Ok(format!("{passed} records, none twice")),
         (_, failed) => Err(format!("{failed} records differ")),
     }

@@ -1,7 +1,7 @@
 //! Counts of a run, and its first differences.
 
 use crate::{
-    case::{Answer, CEILING, Call, Case, ENDING, EXPANSIONS, FOUND, ORIGIN, PLAN_COST, STEP_COUNT},
+    case::{Answer, CEILING, Call, Case, ENDING, EXPANSIONS, FOUND, HIGHEST, ORIGIN, PLAN_COST, STEP_COUNT},
     command::command,
     shrink::{Shrunk, shrink},
 };
@@ -63,6 +63,8 @@ pub struct Tally {
     longest_plan: u64,
     /// Plans that cost less than their ceiling.
     below_ceiling: u64,
+    /// Plans by origin whose highest window is longer than start and goal.
+    climbing: Counts<5>,
     /// Plannings with an allowance over 3,000.
     large: u64,
     pub differences: u64,
@@ -80,6 +82,7 @@ impl Default for Tally {
             expansions: 0,
             longest_plan: 0,
             below_ceiling: 0,
+            climbing: Counts::NONE,
             large: 0,
             differences: 0,
             first: Vec::new(),
@@ -103,6 +106,9 @@ impl Tally {
                 self.expansions += fields[EXPANSIONS];
                 self.longest_plan = self.longest_plan.max(fields[STEP_COUNT]);
                 self.below_ceiling += u64::from(answer.cost(PLAN_COST) < answer.cost(CEILING));
+                if fields[HIGHEST] > case.start.len().max(case.goal.len()) as u64 {
+                    self.climbing.bump(fields[ORIGIN]);
+                }
                 self.large += u64::from(case.states().max(case.limits.max_expansions) > 3_000);
             }
             _ => {}
@@ -156,6 +162,7 @@ impl AddAssign for Tally {
         self.expansions += other.expansions;
         self.longest_plan = self.longest_plan.max(other.longest_plan);
         self.below_ceiling += other.below_ceiling;
+        self.climbing += other.climbing;
         self.large += other.large;
         self.differences += other.differences;
         self.first.extend(other.first);
@@ -184,6 +191,7 @@ impl fmt::Display for Tally {
             writeln!(f, "expansions     {}; with an allowance over 3,000: {}", self.expansions, self.large)?;
             let (longest, below) = (self.longest_plan, self.below_ceiling);
             writeln!(f, "longest plan   {longest} steps; plans below their ceiling: {below}")?;
+            writeln!(f, "climbing       plans that rise above start and goal, by origin: {}", self.climbing)?;
         }
         write!(f, "differences    {}", self.differences)
     }

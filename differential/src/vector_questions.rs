@@ -1,7 +1,11 @@
 //! Which questions stand in the fixed list.
 
 use crate::{
-    case::{CEILING, Call, Case, ENDING, EXPANSIONS, FOUND, KEY, Limits, ORIGIN, POP, SWAP, Tables, limits},
+    case::{
+        CEILING, Call, Case, ENDING, EXPANSIONS, FOUND, HIGHEST, HIGHEST_REPLAYED, KEY, Limits, ORIGIN, POP, SWAP,
+        Tables, limits,
+    },
+    command::command,
     draw::{self, Random},
     expect,
     long_plans::shifting_prices,
@@ -29,6 +33,8 @@ pub fn all() -> Vec<Record> {
     drawn_plans(&mut list);
     long_plans(&mut list);
     other_calls(&mut list);
+    highest_windows(&mut list);
+    highest_planned(&mut list);
     list.records
 }
 
@@ -88,6 +94,13 @@ impl List {
     fn add(&mut self, case: Case) {
         let answer = expect::answer(&case, &mut self.reference);
         self.records.push(Record::new(case, answer));
+    }
+
+    /// The last record, whose answer must have this number at this place.
+    fn last_with(&self, at: usize, number: u64) -> &Record {
+        let last = self.records.last().expect("a record was added");
+        assert_eq!(last.answer.fields[at], number, "{}", command(&last.case));
+        last
     }
 
     /// A call of nothing, to be filled in.
@@ -388,3 +401,66 @@ fn other_calls(list: &mut List) {
 
 /// The longest window that packing is asked.
 const PACKED: usize = 22;
+
+/// Replays and markings with their highest window worked out by hand: at the start, on the way, at the end, and none.
+fn highest_windows(list: &mut List) {
+    // A start, max_len, steps, the highest window.
+    type Way = (&'static [u8], usize, &'static [u16], u64);
+    let ways: [Way; 15] = [
+        // Nothing; Pops and Swaps; down and not so far up again.
+        (&[0, 1, 33], 21, &[], 3),
+        (&[0, 1, 33], 21, &[514, 0, 513, 0], 3),
+        (&[0, 1, 33], 21, &[0, 0, 0, 800, 256], 3),
+        // Up and down; down, up and down; the higher of two tops is the first, the second; to max_len.
+        (&[0, 1, 33], 21, &[256, 800, 0, 0, 0], 5),
+        (&[0, 1, 33], 21, &[0, 256, 800, 1024, 515, 0, 0], 5),
+        (&[0, 1, 33], 21, &[256, 256, 0, 0, 256, 0], 5),
+        (&[0, 1, 33], 21, &[256, 0, 256, 256, 0, 0], 5),
+        (&[0, 1, 33], 4, &[258, 0], 4),
+        (&[], 1, &[1024, 0], 1),
+        // Up to the end.
+        (&[0, 1, 33], 21, &[256, 800, 1025], 6),
+        (&[], 21, &[800, 256, 513, 801], 3),
+        // Refused after growing: past max_len, no kind of step, a Swap below the window, a Pop of nothing.
+        (&[0, 1, 33], 4, &[256, 256], 0),
+        (&[0, 1, 33], 21, &[256, 800, 1280], 0),
+        (&[0, 1, 33], 21, &[256, 0, 515], 0),
+        (&[], 21, &[800, 0, 0], 0),
+    ];
+    for (start, max_len, steps, highest) in ways {
+        let within = |case: &mut Case| case.limits.max_len = max_len;
+        list.replay(start, steps, within);
+        let goal = list.last_with(HIGHEST_REPLAYED, highest).answer.window.clone();
+        // At no more than the ceiling, above it, and elsewhere.
+        for (goal, ceiling) in [(&goal[..], (u32::MAX, 0)), (&goal, (0, 0)), (&[63], (u32::MAX, 0))] {
+            list.mark(start, goal, steps, ceiling, within);
+            list.last_with(HIGHEST_REPLAYED, highest);
+        }
+    }
+}
+
+/// Plannings with the highest window of their plan worked out by hand.
+fn highest_planned(list: &mut List) {
+    type Row = ([usize; 6], &'static [u8], &'static [u8], u64);
+    let searched = [16, 17, 21, 1000, 1000, 1000];
+    let rows: [Row; 10] = [
+        // Start equals goal.
+        (searched, &[], &[], 0),
+        (searched, &[0, 1, 33], &[0, 1, 33], 3),
+        // No plan.
+        ([0, 17, 21, 0, 1000, 1000], &[0], &[0, 0], 0),
+        ([0, 17, 21, 1, 1000, 1000], &[1, 0, 0], &[0, 0, 0], 0),
+        // Builders: down from the start, up to the goal, down and up.
+        (WIDE, &[0, 1, 2], &[0], 3),
+        (WIDE, &[0], &[0, 33, 0], 3),
+        (WIDE, &[0, 1, 2, 3], &[4, 5, 2], 4),
+        // The search: push 33, swap 2, pop rises above start and goal, where there is room; load 3, swap 2, pop, dup 0.
+        (searched, &[0, 1], &[0, 33], 3),
+        ([16, 17, 2, 1000, 1000, 1000], &[0, 1], &[0, 33], 2),
+        (searched, &[0, 2], &[0, 0, 3], 3),
+    ];
+    for (numbers, start, goal, highest) in rows {
+        list.plan(numbers, start, goal, |_| {});
+        list.last_with(HIGHEST, highest);
+    }
+}

@@ -2,7 +2,7 @@
 //! docs/vectors-format.md describes the bytes.
 
 use crate::{
-    case::{Call, ENDING, ORIGIN},
+    case::{Call, ENDING, HIGHEST, HIGHEST_REPLAYED, ORIGIN},
     command::command,
     compare::Sides,
     draw::Random,
@@ -36,6 +36,13 @@ pub fn made() -> (Vec<Record>, Vec<u8>) {
     records.sort_by_key(|record| (!fits_desk(record), if fits_desk(record) { 0 } else { entries(record) }));
     let (mut pool, mut seen) = (Pool::default(), HashSet::new());
     records.retain(|record| seen.insert(record.bytes(&mut pool)));
+    let bytes = bytes_of(&records);
+    (records, bytes)
+}
+
+/// The bytes of a file of these records.
+fn bytes_of(records: &[Record]) -> Vec<u8> {
+    let mut pool = Pool::default();
     let body: Vec<u8> = records.iter().flat_map(|record| record.bytes(&mut pool)).collect();
 
     let most = |of: &dyn Fn(&Record) -> usize| records.iter().map(of).max().unwrap_or(0);
@@ -51,7 +58,16 @@ pub fn made() -> (Vec<Record>, Vec<u8>) {
     pool.prices.iter().flatten().for_each(|price| bytes.extend(price.to_le_bytes()));
     pool.kinds.iter().for_each(|kinds| bytes.extend(kinds));
     bytes.extend(body);
-    (records, bytes)
+    bytes
+}
+
+/// The bytes of the records as they were before planner, replay and marking answered the highest window, their last
+/// field.
+pub fn older(mut records: Vec<Record>) -> Vec<u8> {
+    for record in &mut records {
+        record.fields -= usize::from(matches!(record.case.call, Call::Plan | Call::Replay | Call::Mark));
+    }
+    bytes_of(&records)
 }
 
 /// Writes the list and prints what it holds; then asks the port all of it.
@@ -83,6 +99,27 @@ fn summary(records: &[Record]) {
     println!("refusals from 0 {refusals:?}; endings from 0 {endings:?}; origins from 0 {origins:?}");
     println!("with all prices zero {zero_prices}; plans over 128 steps {over:?}");
     println!("records that fit the desk's lists: {}", records.iter().filter(|record| fits_desk(record)).count());
+    highest_windows(records);
+}
+
+/// Prints where accepted calls have their highest window.
+fn highest_windows(records: &[Record]) {
+    let (mut replays, mut marks, mut plans) = ([0; 3], [0; 3], [0; 5]);
+    for Record { case, answer, .. } in records.iter().filter(|record| record.answer.refusal == 0) {
+        let (fields, start) = (&answer.fields, case.start.len());
+        let above = |highest: u64| highest > start.max(case.goal.len()) as u64;
+        match case.call {
+            Call::Replay => {
+                let highest = fields[HIGHEST_REPLAYED] as usize;
+                replays[if highest == start { 0 } else { 1 + usize::from(highest == answer.window.len()) }] += 1;
+            }
+            Call::Mark => marks[fields[1] as usize] += usize::from(above(fields[HIGHEST_REPLAYED])),
+            Call::Plan => plans[fields[ORIGIN] as usize] += usize::from(above(fields[HIGHEST])),
+            _ => {}
+        }
+    }
+    println!("highest window of replays: the start, one on the way, the end {replays:?}");
+    println!("above start and goal: markings from 0 {marks:?}; plans by origin from 0 {plans:?}");
 }
 
 /// Parts a file into its records, or says what is wrong with it.

@@ -86,6 +86,8 @@ pub struct Plan {
     /// The pass mark. The plan costs no more, and higher allowances never raise it.
     pub ceiling: Cost,
     pub origin: Origin,
+    /// The greatest length of a window on the way, the start included.
+    pub highest: usize,
 }
 
 /// The planner's answer to an accepted question.
@@ -105,6 +107,8 @@ pub struct Answer {
 pub struct Replayed {
     /// The window that the steps lead to.
     pub window: Vec<u8>,
+    /// The greatest length that the window reached, the start included.
+    pub highest: usize,
 }
 
 /// Marking's answer to accepted steps.
@@ -112,6 +116,8 @@ pub struct Replayed {
 #[non_exhaustive]
 pub struct Marked {
     pub mark: Mark,
+    /// At every mark the greatest length that the window reached, the start included.
+    pub highest: usize,
 }
 
 /// Owns the lists that a planning needs, and keeps them from one planning to the next.
@@ -183,6 +189,7 @@ pub fn plan_in(question: &Question<'_>, lists: Lists<'_>) -> Result<Answer, Refu
         cost: Cost::new(answer.plan_gas, answer.plan_bytes),
         ceiling: Cost::new(answer.ceiling_gas, answer.ceiling_bytes),
         origin: Origin::from_number(answer.origin),
+        highest: answer.highest,
     });
     Ok(Answer { plan, ending: Ending::from_number(answer.ending), expansions: answer.expansions })
 }
@@ -199,7 +206,7 @@ pub fn replay_codes(question: &Question<'_>, codes: &[u16]) -> Result<Replayed, 
     let replayed = raw::replay(start, codes, dup_max, swap_max, max_len, &tables.kinds, &mut result);
     match Refusal::from_number(replayed.refusal, replayed.index) {
         Some(refusal) => Err(refusal),
-        None => Ok(Replayed { window: result[..replayed.length].to_vec() }),
+        None => Ok(Replayed { window: result[..replayed.length].to_vec(), highest: replayed.highest }),
     }
 }
 
@@ -215,7 +222,7 @@ pub fn mark_codes(question: &Question<'_>, codes: &[u16], ceiling: Cost) -> Resu
     let marked = raw::mark(start, goal, codes, dup_max, swap_max, max_len, kinds, prices, ceiling.gas, ceiling.bytes);
     match Refusal::from_number(marked.refusal, marked.index) {
         Some(refusal) => Err(refusal),
-        None => Ok(Marked { mark: Mark::from_number(marked.mark) }),
+        None => Ok(Marked { mark: Mark::from_number(marked.mark), highest: marked.highest }),
     }
 }
 

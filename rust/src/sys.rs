@@ -61,6 +61,7 @@ pub struct NimskerfAnswer {
     pub origin: u32,
     pub ending: u32,
     pub expansions: usize,
+    pub highest: usize,
 }
 
 /// Replay's answer.
@@ -70,6 +71,7 @@ pub struct NimskerfReplayed {
     pub refusal: u32,
     pub index: usize,
     pub length: usize,
+    pub highest: usize,
 }
 
 /// Marking's answer.
@@ -79,6 +81,7 @@ pub struct NimskerfMarked {
     pub refusal: u32,
     pub index: usize,
     pub mark: u32,
+    pub highest: usize,
 }
 
 /// Packing's answer.

@@ -171,6 +171,7 @@ const START: [u8; 7] = [6, 6, 3, 0, 2, 6, 2];
 const GOAL: [u8; 3] = [3, 5, 2];
 const FIRST: [u8; 5] = [0, 1, 2, 3, 4];
 const TURNED: [u8; 5] = [4, 2, 0, 1, 3];
+const MENDED: [u8; 5] = [0, 33, 2, 3, 4];
 
 fn question_of(start: &[u8], goal: &[u8]) -> NimskerfQuestion {
     // SAFETY: a call without pointers.
@@ -245,6 +246,7 @@ fn plan(out: &mut String, name: &str, q: &NimskerfQuestion) {
             .unwrap();
         write!(out, " plan {}/{} ceiling {}/{}", a.plan_gas, a.plan_bytes, a.ceiling_gas, a.ceiling_bytes).unwrap();
         write!(out, " origin {} ending {} expansions {}", a.origin, a.ending, a.expansions).unwrap();
+        write!(out, " highest {}", a.highest).unwrap();
         let kept = [&nodes[..], &heads, &open].iter().all(|list| list[list.len() - 8..] == [7; 8]);
         let kept = if kept { "kept" } else { "OVERRUN" };
         writeln!(out, " lists {kept} steps{}", written(&steps, a.step_count, 0xabab)).unwrap();
@@ -272,6 +274,11 @@ fn plans(out: &mut String) {
     (q.max_expansions, q.states_without, q.states_with) = (90, 400, 12);
     plan(out, "plan in hand", &q);
     plan(out, "narrow", &NimskerfQuestion { dup_max: 2, swap_max: 5, max_len: 6, ..q });
+
+    let mut q = question_of(&FIRST, &MENDED);
+    (q.max_expansions, q.states_without, q.states_with) = (90, 400, 300);
+    plan(out, "climbing", &q);
+    plan(out, "equal", &NimskerfQuestion { goal: FIRST.as_ptr(), ..q });
 }
 
 fn replay(out: &mut String, name: &str, q: &NimskerfQuestion, codes: &[u16]) {
@@ -299,7 +306,7 @@ fn replay(out: &mut String, name: &str, q: &NimskerfQuestion, codes: &[u16]) {
             }
         };
         write!(out, "replay, {name}, {through}: refusal {} index {} length {}", r.refusal, r.index, r.length).unwrap();
-        writeln!(out, " result{}", written(&result, r.length, 0xab)).unwrap();
+        writeln!(out, " highest {} result{}", r.highest, written(&result, r.length, 0xab)).unwrap();
     }
 }
 
@@ -329,7 +336,8 @@ fn mark(out: &mut String, name: &str, q: &NimskerfQuestion, codes: &[u16], ceili
                 ),
             }
         };
-        writeln!(out, "mark, {name}, {through}: refusal {} index {} mark {}", m.refusal, m.index, m.mark).unwrap();
+        write!(out, "mark, {name}, {through}: refusal {} index {} mark {}", m.refusal, m.index, m.mark).unwrap();
+        writeln!(out, " highest {}", m.highest).unwrap();
     }
 }
 
@@ -466,11 +474,12 @@ fn layouts(out: &mut String) {
             ceiling_bytes,
             origin,
             ending,
-            expansions
+            expansions,
+            highest
         }
     );
-    layout!(out, NimskerfReplayed { refusal, index, length });
-    layout!(out, NimskerfMarked { refusal, index, mark });
+    layout!(out, NimskerfReplayed { refusal, index, length, highest });
+    layout!(out, NimskerfMarked { refusal, index, mark, highest });
     layout!(out, NimskerfPacked { refusal, lo, hi });
     layout!(out, NimskerfBuilt { refusal, count });
 }

@@ -1,8 +1,8 @@
 //! Document 01's questions with known outcomes, and plans of the search, through the typed interface.
 
 use nimskerf::{
-    Allowances, Answer, Cost, Ending, Kind, Lists, Mark, Origin, Plan, Planner, PriceList, Question, Reaches, Refusal,
-    Step, Tables, delete_tail, mark, mark_codes, pack, plan_in, replay, replay_codes, star_swap,
+    Allowances, Answer, Cost, Ending, Kind, Limits, Lists, Mark, Origin, Plan, Planner, PriceList, Question, Reaches,
+    Refusal, Step, Tables, delete_tail, mark, mark_codes, pack, plan_in, raw, replay, replay_codes, star_swap,
 };
 use std::thread;
 
@@ -26,24 +26,24 @@ fn the_desk_example() {
     assert_eq!(plan.steps, [Step::Swap(2), Step::Pop, Step::Pop]);
     assert_eq!(plan.cost, Cost::new(7, 3));
     assert_eq!(plan.ceiling, Cost::new(7, 3));
-    assert_eq!(plan.origin, Origin::DeleteTail);
+    assert_eq!((plan.origin, plan.highest), (Origin::DeleteTail, 3));
 }
 
 #[test]
 fn builders_plans() {
     let plan = plan_of(&[0, 1], &[], WIDE).expect("a plan");
     assert_eq!(plan.steps, [Step::Pop, Step::Pop]);
-    assert_eq!((plan.cost, plan.origin), (Cost::new(4, 2), Origin::DupAndStar));
+    assert_eq!((plan.cost, plan.origin, plan.highest), (Cost::new(4, 2), Origin::DupAndStar, 2));
 
     let plan = plan_of(&[0], &[0, 0], WIDE).expect("a plan");
     assert_eq!(plan.steps, [Step::Dup(0)]);
-    assert_eq!((plan.cost, plan.origin), (Cost::new(3, 1), Origin::DupAndStar));
+    assert_eq!((plan.cost, plan.origin, plan.highest), (Cost::new(3, 1), Origin::DupAndStar, 2));
 
     assert_eq!(plan_of(&[0], &[0, 0], Reaches { dup_max: 0, ..WIDE }), None);
 
     let plan = plan_of(&[], &[32], WIDE).expect("a plan");
     assert_eq!(plan.steps, [Step::PushImm(32)]);
-    assert_eq!(plan.cost, Cost::new(2, 1));
+    assert_eq!((plan.cost, plan.highest), (Cost::new(2, 1), 1));
 }
 
 #[test]
@@ -52,7 +52,7 @@ fn reaches_and_lengths() {
     let answer = ask(&[], &[], narrow, NO_SEARCH).expect("accepted");
     assert_eq!(answer.ending, Ending::Equal);
     let plan = answer.plan.expect("the empty plan");
-    assert_eq!((plan.steps.len(), plan.origin), (0, Origin::None));
+    assert_eq!((plan.steps.len(), plan.origin, plan.highest), (0, Origin::None, 0));
     assert_eq!(ask(&[0], &[], narrow, NO_SEARCH), Err(Refusal::Length));
 
     let window: Vec<u8> = (0..18).collect();
@@ -79,7 +79,8 @@ fn a_search_improves_on_the_builders() {
     assert_eq!(plan.steps, [Step::LoadVal(3), Step::Swap(2), Step::Pop, Step::Dup(0)]);
     assert_eq!((plan.cost, plan.ceiling, plan.origin), (Cost::new(14, 6), Cost::new(14, 6), Origin::Search));
     assert!(plan.ceiling < built.ceiling);
-    assert_eq!(replay(&question, &plan.steps).expect("allowed").window, question.goal);
+    let replayed = replay(&question, &plan.steps).expect("allowed");
+    assert_eq!((&replayed.window[..], replayed.highest, plan.highest), (question.goal, 3, 3));
     assert_eq!(mark(&question, &plan.steps, plan.ceiling).expect("allowed").mark, Mark::Pass);
     assert_eq!(mark(&question, &built.steps, plan.ceiling).expect("allowed").mark, Mark::TooDear);
 }
@@ -116,6 +117,69 @@ fn a_plan_of_the_search_alone() {
     let plan = answer.plan.expect("a plan");
     assert_eq!((plan.cost, plan.ceiling, plan.origin), (Cost::new(27, 70), Cost::new(27, 70), Origin::Search));
     assert_eq!(plan.steps[5..], [Step::Pop, Step::PushImm(5), Step::PushImm(3)]);
+    assert_eq!(plan.highest, 7);
+}
+
+/// The highest window is the start, one on the way or the end.
+#[test]
+fn highest_windows() {
+    let question = Question::new(&[0, 1, 33], &[0]);
+    let highest = |steps: &[Step]| replay(&question, steps).expect("allowed").highest;
+    assert_eq!(highest(&[]), 3);
+    assert_eq!(highest(&[Step::Swap(2), Step::Pop, Step::Pop]), 3);
+    assert_eq!(highest(&[Step::Pop, Step::Pop, Step::Pop, Step::PushImm(32)]), 3);
+    assert_eq!(highest(&[Step::Dup(0), Step::PushImm(32), Step::Pop, Step::Pop]), 5);
+    assert_eq!(highest(&[Step::Dup(0), Step::PushImm(32), Step::LoadVal(1)]), 6);
+    assert_eq!(replay(&question, &[Step::Dup(0), Step::Swap(4)]), Err(Refusal::Step(1)));
+
+    // Marked 0, 2 and 1: 12 gas and 5 bytes, 4 keys at its highest.
+    let steps = [Step::Dup(0), Step::Swap(3), Step::Pop, Step::Pop, Step::Pop];
+    let marked = |steps: &[Step], ceiling| {
+        let marked = mark(&question, steps, ceiling).expect("allowed");
+        (marked.mark, marked.highest)
+    };
+    assert_eq!(marked(&steps, Cost::new(12, 5)), (Mark::Pass, 4));
+    assert_eq!(marked(&steps, Cost::new(12, 4)), (Mark::TooDear, 4));
+    assert_eq!(marked(&steps[..4], Cost::new(12, 5)), (Mark::Elsewhere, 4));
+}
+
+#[test]
+fn highest_windows_of_plans() {
+    let highest = |start: &[u8], goal: &[u8], reaches| {
+        ask(start, goal, reaches, SEARCH).expect("accepted").plan.map(|plan| plan.highest)
+    };
+    // Push 33, swap 2, pop rises above start and goal; without room for it there is another plan.
+    assert_eq!(highest(&[0, 1], &[0, 33], WIDE), Some(3));
+    assert_eq!(highest(&[0, 1], &[0, 33], Reaches { max_len: 2, ..WIDE }), Some(2));
+    // Start equals goal: the start.
+    assert_eq!(highest(&[0, 1, 2], &[0, 1, 2], WIDE), Some(3));
+    assert_eq!(highest(&[], &[], WIDE), Some(0));
+}
+
+/// Under the typed interface the number is 0 beside every refusal, 8 too, and without a plan.
+#[test]
+fn no_highest_window() {
+    let desk = Tables::desk();
+    let (kinds, prices) = (desk.kinds(), desk.prices());
+    // Not allowed after growing, then too many keys for max_len.
+    for (max_len, refusal, index) in [(21, 8, 2), (0, 6, 0)] {
+        let (start, codes) = ([0], [256, 256, 1280]);
+        let replayed = raw::replay(&start, &codes, 16, 17, max_len, kinds, &mut [0; 21]);
+        assert_eq!((replayed.refusal, replayed.index, replayed.highest), (refusal, index, 0));
+        let marked = raw::mark(&start, &start, &codes, 16, 17, max_len, kinds, prices, 99, 99);
+        assert_eq!((marked.refusal, marked.index, marked.highest), (refusal, index, 0));
+    }
+    let planned = |dup_max, start: &[u8]| {
+        let (mut steps, mut nodes, mut heads, mut open) = ([0; 128], [0; 8 * 50], [0; 50], [0; 4 * 50]);
+        let lists = Lists { steps: &mut steps, nodes: &mut nodes, heads: &mut heads, open: &mut open };
+        let limits = Limits { dup_max, swap_max: 17, max_len: 21, ..Limits::default() };
+        let answer = raw::plan(start, &[0, 0], &limits, kinds, prices, lists);
+        (answer.refusal, answer.found, answer.highest)
+    };
+    assert_eq!(planned(16, &[0]), (0, 1, 2));
+    assert_eq!(planned(0, &[0]), (0, 0, 0));
+    assert_eq!(planned(17, &[0]), (1, 0, 0));
+    assert_eq!(planned(16, &[64]), (5, 0, 0));
 }
 
 #[test]

@@ -3,11 +3,11 @@ use mathlib.Core.Path.{_≡_, refl, sym, subst}
 use mathlib.Core.Bool.{Bool, cond}
 use mathlib.Core.Option.{Option, none, some}
 use mathlib.Core.List.{List, [], _∷_}
-use Prim.Native.Nat.{ℕ, zero, suc, _≤_}
+use Prim.Native.Nat.{ℕ, zero, suc, _<_, _≤_}
 use native.Mathlib.Omega.{arith}
 use lib.Dec.{leb, eqb}
 use Rattle.astar.specs.Cost.{CostAlgebra, same}
-use Rattle.astar.specs.Search.{Problem, Allowance, Ending, number, Search, Turn, stop, go, Result, Entry, Node, find, cut, over, visit, drawn, turnOn, turn, without, begin, run, enough}
+use Rattle.astar.specs.Search.{Problem, Allowance, Ending, drained, cutOff, states, expansions, number, Search, Turn, stop, go, Result, Entry, Node, find, cut, over, visit, drawn, turnOn, turn, without, begin, run, enough}
 use Rattle.astar.specs.Turns.{Reach, here, next, Keeps, of-go}
 use Rattle.astar.specs.Tests.{by-cond}
 use Rattle.astar.specs.Room.{Bounded}
@@ -80,3 +80,26 @@ module _ (K : CostAlgebra) (Q : Problem K) (A : Allowance) where
         by-cond InBounds (eqb (Q .start) (Q .goal))
         (λ _. record { few-expansions = omega arith; ending-most = omega arith })
         (λ _. by-cond InBounds (eqb (A .expansions) 0) (λ _. record { few-expansions = omega arith; ending-most = omega arith }) (λ _. search-in-bounds))
+
+  -- ---- ending 0
+
+  module _ (priced : Q .Step → K .C) (few : ℕ) (bound : K .C) (held : Option (Found (K .C) (Q .Step))) where
+    -- at ending 0 a plan of no steps, whose cost and ceiling are zero
+    abbrev Still : Answer (K .C) (Q .Step) → Type 0
+    Still r = r .ending ≡ 0 → r .plan ≡ some (record { origin = 0; steps = []; cost = K .𝟘; ceiling = K .𝟘 })
+
+    -- the run's own endings are 2 to 5
+    past-1 : (o : Option Ending) → 1 < numbered o
+    unfolding number
+    past-1 none = omega arith
+    past-1 (some drained) = omega arith
+    past-1 (some cutOff) = omega arith
+    past-1 (some states) = omega arith
+    past-1 (some expansions) = omega arith
+
+    -- an answer of ending 0 has that plan (document 01, "Endings:")
+    pub planned-still : planned K Q priced few bound held A .ending ≡ 0 → planned K Q priced few bound held A .plan ≡ some (record { origin = 0; steps = []; cost = K .𝟘; ceiling = K .𝟘 })
+    unfolding planned searched
+    planned-still =
+        by-cond Still (eqb (Q .start) (Q .goal)) (λ _ _. refl)
+        (λ _. by-cond Still (eqb (A .expansions) 0) (λ _ e. absurd (omega arith)) (λ _ e. absurd (omega (arith, past-1 (run K Q A (enough K Q few A) (first K Q priced few bound held) .ending)))))

@@ -11,15 +11,15 @@ use lib.Dec.{ltb}
 use Rattle.costs.specs.Choice.{_if_otherwise_}
 use Rattle.costs.specs.Laws.{or-left}
 use Rattle.costs.specs.Table.{kindsFault}
-use Rattle.replay.specs.Machine.{Rules, rules, room, immediate, ranOn, after, ends}
+use Rattle.replay.specs.Machine.{Rules, rules, room, immediate, ranOn, after, ends, highest}
 use Rattle.replay.specs.Replay.{replayRefusal, replayed}
+use Rattle.replay.specs.Laws.{replayed-to}
 use Rattle.star_swap.specs.Star.{run, pick, trailLoop, trail, lastOf, circuits, misplaced, starSwaps, code, codes}
 use Rattle.star_swap.specs.StarLoop.{star-few}
 use Rattle.star_swap.specs.Tests.{or-right, by-test}
 use Rattle.star_swap.specs.Refusal.{unroutable, builderRefusal}
 use Rattle.star_swap.specs.Check.{Window, taken, taken-refusal, higher-row}
 use Rattle.star_swap.specs.Routable.{small-of}
-use Rattle.star_swap.specs.Ran.{replayed-to}
 use Rattle.star_swap.specs.Call.{written-read}
 use Rattle.builders.specs.Draft.{does, routed, stepsOf}
 use Rattle.builders.specs.Tail.{bury, pops, begins, uncovered, deleteTail, notTail, tailRefusal, deleted}
@@ -43,7 +43,7 @@ module _ (q : Rules) (start goal : List ℕ) where
 
   -- and as replay answers it, for rules that replay accepts
   pub delete-tail-replayed : (places : ℕ) (result : List ℕ) → tailRefusal (q .swapMax) start goal places ≡ 0 → replayRefusal q start (length (deleteTail start goal)) (length result) ≡ 0 →
-      replayed q start (deleteTail start goal) result ≡ (record { refusal = 0; index = 0; length = length goal }, goal ++ drop (length goal) result)
+      replayed q start (deleteTail start goal) result ≡ (record { refusal = 0; index = 0; length = length goal; highest = highest q (deleteTail start goal) start }, goal ++ drop (length goal) result)
   delete-tail-replayed places result h a = replayed-to q start (deleteTail start goal) goal result a (delete-tail-reaches places h)
 
 -- at most 72 steps, so the least step list holds them

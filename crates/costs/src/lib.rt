@@ -261,6 +261,13 @@ pub fn row(number: u32, applies: bool, higher: u32) -> u32
     if applies { number } else { higher }
 }
 
+// The larger of two numbers.
+pub fn greater(a: usize, b: usize) -> usize
+    ensures { λ r. ⌜ r ≡ max a b ⌝ }
+{
+    if a < b { b } else { a }
+}
+
 // Whether one of two conditions holds, with both looked at.
 pub fn either(a: bool, b: bool) -> bool
     ensures { λ r. ⌜ r ≡ (a || b) ⌝ }

@@ -27,7 +27,7 @@ use Rattle.desk_text.specs.declared.print.Fields.{Fields}
 use Rattle.desk_text.specs.declared.print.Spoken.{Spoken}
 use Rattle.desk_text.specs.declared.print.Spoken.the-variants.{Plan, Refused, Unreadable}
 
--- the nine fields of the planner's answer, in order
+-- the fields of the planner's answer, in order
 abbrev pub fieldsFrom : Answer → Fields
 fieldsFrom a =
     record {
@@ -40,6 +40,7 @@ fieldsFrom a =
       origin = a .origin;
       ending = a .ending;
       expansions = a .expansions;
+      highest = a .highest;
     }
 
 -- a refusal prints its number, another answer its fields and the plan's steps
@@ -67,7 +68,7 @@ deskAnswer (some q) = said (planning (limitsOf (q .limits)) (map keyOf (q .start
 pub count-is : (n : ℕ) (xs : List ℕ) → n ≤ length xs → n ≡ length (take n xs)
 count-is n xs h = sym (length-take-le n xs h)
 
-pub print-fits : (n : ℕ) (steps out : List ℕ) → n ≤ length steps → length steps ≤ 1000 → 32768 ≤ length out → 189 + 29 * length (take n steps) ≤ length out
+pub print-fits : (n : ℕ) (steps out : List ℕ) → n ≤ length steps → length steps ≤ 1000 → 32768 ≤ length out → 210 + 29 * length (take n steps) ≤ length out
 print-fits n steps out h k m = rw (length-take-le n steps h) (omega arith)
 
 module _ (a : Answer) (steps out two : List ℕ) (r : ℕ) where

@@ -9,7 +9,7 @@ use lib.ListN.{length, drop, length-append, length-drop}
 use native.Mathlib.Omega.{arith}
 use Rattle.costs.specs.Choice.{_if_otherwise_}
 use Rattle.costs.specs.declared.Cost.{Cost}
-use Rattle.replay.specs.Machine.{rules}
+use Rattle.replay.specs.Machine.{Rules, rules}
 use Rattle.astar.specs.Planner.{Found}
 use Rattle.planner.specs.declared.Answer.{Answer}
 use Rattle.planner.specs.Refusal.{Asked, Lent, asked, allowances, lent, planRefusal}
@@ -44,9 +44,9 @@ plan-is l start goal steps two kinds prices n h o a k p x y z e = rw (k, p, x, y
 
 -- ---- a plan has room in the step list that was lent
 
-few-steps : (o : Option (Found Cost ℕ)) (e x n : ℕ) → ((p : Found Cost ℕ) → o ≡ some p → length (p .steps) ≤ n) → fieldsOf o e x .«step_count» ≤ n
-few-steps none e x n h = omega arith
-few-steps (some p) e x n h = h p refl
+few-steps : (q : Rules) (start : List ℕ) (o : Option (Found Cost ℕ)) (e x n : ℕ) → ((p : Found Cost ℕ) → o ≡ some p → length (p .steps) ≤ n) → fieldsOf q start o e x .«step_count» ≤ n
+few-steps q start none e x n h = omega arith
+few-steps q start (some p) e x n h = h p refl
 
 same-places : (o : Option (Found Cost ℕ)) (xs : List ℕ) → ((p : Found Cost ℕ) → o ≡ some p → length (p .steps) ≤ length xs) → length (stepsWith o xs) ≡ length xs
 same-places none xs h = refl
@@ -61,7 +61,7 @@ by-choice P x y false p q = q
 module _ (a : Asked) (l : Lent) where
   -- an accepted answer, and a refusal
   abbrev given : List ℕ → Answer × List ℕ
-  given xs = (fieldsOf (answered a .plan) (answered a .ending) (answered a .expansions), stepsWith (answered a .plan) xs)
+  given xs = (fieldsOf (a .rules) (a .start) (answered a .plan) (answered a .ending) (answered a .expansions), stepsWith (answered a .plan) xs)
 
   abbrev not-given : List ℕ → Answer × List ℕ
   not-given xs = (refused (planRefusal a l), xs)
@@ -76,7 +76,7 @@ module _ (a : Asked) (l : Lent) where
   unfolding plannedFor
   answer-count xs =
       by-choice (λ (t : Answer × List ℕ). t .0 .«step_count» ≤ l .steps) (given xs) (not-given xs) (eqb (planRefusal a l) 0)
-      (λ t. few-steps (answered a .plan) (answered a .ending) (answered a .expansions) (l .steps) (plan-fits t))
+      (λ t. few-steps (a .rules) (a .start) (answered a .plan) (answered a .ending) (answered a .expansions) (l .steps) (plan-fits t))
       (omega arith)
 
   answer-places : (xs : List ℕ) → l .steps ≡ length xs → length (plannedFor a l xs .1) ≡ length xs

@@ -6,7 +6,7 @@ use lib.ListN.{replicate}
 use Rattle.costs.specs.declared.Cost.{Cost}
 use Rattle.costs.specs.Cost.{plus, noMore}
 use Rattle.costs.specs.Step.{decoded}
-use Rattle.replay.specs.Machine.{rules, room, immediate, after}
+use Rattle.replay.specs.Machine.{rules, room, immediate, allows, after, passes, highest}
 use Rattle.replay.specs.Replay.{reachFault}
 use Rattle.star_swap.specs.Star.{pick, trailLoop, trail, lastOf, circuits, misplaced, starSwaps}
 use Rattle.star_swap.specs.Refusal.{unroutable}
@@ -59,16 +59,17 @@ answer =
       origin = 1;
       ending = 1;
       expansions = 0;
+      highest = 3;
     }
 
 planned-so : planning limits start goal zeros ≡ (answer, 514 ∷ 0 ∷ 0 ∷ replicate 997 0)
-unfolding planning zeros
+unfolding planning zeros highest passes allows after decoded
 planned-so =
     let a = deskQuestion limits start goal in
     when-accepted a (deskLent 1000) (replicate 1000 0) accepted
-    ∙ ap (λ (r : Answered Cost ℕ). given r (replicate 1000 0))
+    ∙ ap (λ (r : Answered Cost ℕ). given (a .rules) start r (replicate 1000 0))
     (no-expansion a refl refl ∙ ap (λ (h : Held). record { plan = planHeld h; ending = 1; expansions = 0 }) held)
 
 -- document 01's example ("Input")
-pub example : deskAnswer (questionOf (49 ∷ 54 ∷ 32 ∷ 49 ∷ 55 ∷ 32 ∷ 50 ∷ 49 ∷ 32 ∷ 48 ∷ 32 ∷ 49 ∷ 48 ∷ 48 ∷ 48 ∷ 32 ∷ 49 ∷ 48 ∷ 48 ∷ 48 ∷ 10 ∷ 48 ∷ 32 ∷ 49 ∷ 32 ∷ 50 ∷ 10 ∷ 48 ∷ [])) ≡ 49 ∷ 32 ∷ 51 ∷ 32 ∷ 55 ∷ 32 ∷ 51 ∷ 32 ∷ 55 ∷ 32 ∷ 51 ∷ 32 ∷ 49 ∷ 32 ∷ 49 ∷ 32 ∷ 48 ∷ 10 ∷ 115 ∷ 119 ∷ 97 ∷ 112 ∷ 32 ∷ 50 ∷ 10 ∷ 112 ∷ 111 ∷ 112 ∷ 10 ∷ 112 ∷ 111 ∷ 112 ∷ 10 ∷ []
+pub example : deskAnswer (questionOf (49 ∷ 54 ∷ 32 ∷ 49 ∷ 55 ∷ 32 ∷ 50 ∷ 49 ∷ 32 ∷ 48 ∷ 32 ∷ 49 ∷ 48 ∷ 48 ∷ 48 ∷ 32 ∷ 49 ∷ 48 ∷ 48 ∷ 48 ∷ 10 ∷ 48 ∷ 32 ∷ 49 ∷ 32 ∷ 50 ∷ 10 ∷ 48 ∷ [])) ≡ 49 ∷ 32 ∷ 51 ∷ 32 ∷ 55 ∷ 32 ∷ 51 ∷ 32 ∷ 55 ∷ 32 ∷ 51 ∷ 32 ∷ 49 ∷ 32 ∷ 49 ∷ 32 ∷ 48 ∷ 32 ∷ 51 ∷ 10 ∷ 115 ∷ 119 ∷ 97 ∷ 112 ∷ 32 ∷ 50 ∷ 10 ∷ 112 ∷ 111 ∷ 112 ∷ 10 ∷ 112 ∷ 111 ∷ 112 ∷ 10 ∷ []
 example = ap deskAnswer the-example ∙ ap said planned-so ∙ the-answer

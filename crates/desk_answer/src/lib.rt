@@ -55,7 +55,7 @@ fn open_room() -> [u64; 4200]
     [0; 4200]
 }
 
-// The planner's nine fields as they are printed.
+// The planner's fields as they are printed.
 fn fields(a: Answer) -> Fields
     ensures { λ r. ⌜ r ≡ fieldsFrom a ⌝ }
 {
@@ -69,6 +69,7 @@ fn fields(a: Answer) -> Fields
         origin: a.origin as usize,
         ending: a.ending as usize,
         expansions: a.expansions,
+        highest: a.highest,
     }
 }
 

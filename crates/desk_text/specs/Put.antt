@@ -353,7 +353,7 @@ line-end old at ns out next i s h =
     let f = so-end 21 old at (lineText ns) out next i (subst (λ (l : List ℕ). SoFar 21 old at (lineText ns) l out next i) e (s .so-far)) in
     subst (λ (j : ℕ). PutIn (21 * j) old at (lineText ns) out next) k f
 
-pub put-plan : (a : Fields) (steps old one two : List ℕ) (r q : ℕ) → PutIn 189 old 0 (lineText (fieldsOf a)) one r → Put one r (stepsText steps) two q → Put old 0 (planText a steps) two q
+pub put-plan : (a : Fields) (steps old one two : List ℕ) (r q : ℕ) → PutIn 210 old 0 (lineText (fieldsOf a)) one r → Put one r (stepsText steps) two q → Put old 0 (planText a steps) two q
 put-plan a steps old one two r q x y = put-then (x .put) y
 
 put-whole : {old text out : List ℕ} {r : ℕ} → Put old 0 text out r → (r, out) ≡ printed text old

@@ -26,7 +26,7 @@ lead n = leadIn n n
 unfoldable pub decimal : ℕ → List ℕ
 decimal n = lead (n / 10) ++ ((48 + n % 10) ∷ [])
 
--- a line of numbers parted by single spaces (as the example's `1 3 7 3 7 3 1 1 0`)
+-- a line of numbers parted by single spaces (as the example's `1 3 7 3 7 3 1 1 0 3`)
 unfoldable pub lineText : List ℕ → List ℕ
 lineText [] = []
 lineText (n ∷ []) = decimal n ++ (10 ∷ [])
@@ -54,10 +54,10 @@ unfoldable pub stepsText : List ℕ → List ℕ
 stepsText [] = []
 stepsText (c ∷ cs) = codeText (decoded c) ++ stepsText cs
 
--- the nine fields, in the order of "The planner's answer"
+-- the nine fields, in the order of "The planner's answer", and the highest window (request U1)
 abbrev pub fieldsOf : Fields → List ℕ
 fieldsOf a =
-    a .found ∷ a .«step_count» ∷ a .«plan_gas» ∷ a .«plan_bytes» ∷ a .«ceiling_gas» ∷ a .«ceiling_bytes» ∷ a .origin ∷ a .ending ∷ a .expansions ∷ []
+    a .found ∷ a .«step_count» ∷ a .«plan_gas» ∷ a .«plan_bytes» ∷ a .«ceiling_gas» ∷ a .«ceiling_bytes» ∷ a .origin ∷ a .ending ∷ a .expansions ∷ a .highest ∷ []
 
 -- the answer's line and the plan's steps (as in the example)
 abbrev pub planText : Fields → List ℕ → List ℕ

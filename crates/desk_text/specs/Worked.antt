@@ -86,7 +86,7 @@ pub key-256 : keyOf 256 ≡ 255
 key-256 = refl
 
 -- document 01's answer
-pub the-answer : deskText (Plan (record { found = 1; «step_count» = 3; «plan_gas» = 7; «plan_bytes» = 3; «ceiling_gas» = 7; «ceiling_bytes» = 3; origin = 1; ending = 1; expansions = 0 })) (514 ∷ 0 ∷ 0 ∷ []) ≡ 49 ∷ 32 ∷ 51 ∷ 32 ∷ 55 ∷ 32 ∷ 51 ∷ 32 ∷ 55 ∷ 32 ∷ 51 ∷ 32 ∷ 49 ∷ 32 ∷ 49 ∷ 32 ∷ 48 ∷ 10 ∷ 115 ∷ 119 ∷ 97 ∷ 112 ∷ 32 ∷ 50 ∷ 10 ∷ 112 ∷ 111 ∷ 112 ∷ 10 ∷ 112 ∷ 111 ∷ 112 ∷ 10 ∷ []
+pub the-answer : deskText (Plan (record { found = 1; «step_count» = 3; «plan_gas» = 7; «plan_bytes» = 3; «ceiling_gas» = 7; «ceiling_bytes» = 3; origin = 1; ending = 1; expansions = 0; highest = 3 })) (514 ∷ 0 ∷ 0 ∷ []) ≡ 49 ∷ 32 ∷ 51 ∷ 32 ∷ 55 ∷ 32 ∷ 51 ∷ 32 ∷ 55 ∷ 32 ∷ 51 ∷ 32 ∷ 49 ∷ 32 ∷ 49 ∷ 32 ∷ 48 ∷ 32 ∷ 51 ∷ 10 ∷ 115 ∷ 119 ∷ 97 ∷ 112 ∷ 32 ∷ 50 ∷ 10 ∷ 112 ∷ 111 ∷ 112 ∷ 10 ∷ 112 ∷ 111 ∷ 112 ∷ 10 ∷ []
 unfolding leadIn lead decimal lineText stepsText decoded
 the-answer = refl
 

@@ -9,7 +9,7 @@ ghost use Rattle.costs.specs.Step.{decoded};
 ghost use Rattle.desk_text.specs.Text.{decimal, wordLine, stepText, codeText, stepsText, lineText, planText, deskText, printed};
 ghost use Rattle.desk_text.specs.Put.{Put, PutIn, Spelled, parted};
 
-// The planner's nine fields.
+// The planner's nine fields and the highest window.
 pub struct Fields {
     pub found: usize,
     pub step_count: usize,
@@ -20,6 +20,7 @@ pub struct Fields {
     pub origin: usize,
     pub ending: usize,
     pub expansions: usize,
+    pub highest: usize,
 }
 
 // What the desk says.
@@ -180,7 +181,7 @@ fn put_line(out: &mut [u8], at: usize, numbers: &[usize]) -> usize
 
 // The answer's line and the plan's steps.
 fn put_plan(out: &mut [u8], a: Fields, steps: &[u16]) -> usize
-    requires { ⌜ 189 + 29 * length (now steps) ≤ length (now out) ⌝ }
+    requires { ⌜ 210 + 29 * length (now steps) ≤ length (now out) ⌝ }
     ensures { λ r. ⌜ Put (now (out .entry)) 0 (planText a (now (steps .entry))) (now (out .exit)) r ⌝ }
 {
     let fields = [
@@ -193,6 +194,7 @@ fn put_plan(out: &mut [u8], a: Fields, steps: &[u16]) -> usize
         a.origin,
         a.ending,
         a.expansions,
+        a.highest,
     ];
     let next = put_line(out, 0, &fields);
     put_steps(out, next, steps)
@@ -200,7 +202,7 @@ fn put_plan(out: &mut [u8], a: Fields, steps: &[u16]) -> usize
 
 // What the desk says, over the first places of a buffer; how many bytes it is.
 pub fn print(spoken: Spoken, steps: &[u16], out: &mut [u8]) -> usize
-    requires { ⌜ 189 + 29 * length (now steps) ≤ length (now out) ⌝ }
+    requires { ⌜ 210 + 29 * length (now steps) ≤ length (now out) ⌝ }
     ensures { λ r. ⌜ (r, now (out .exit)) ≡ printed (deskText spoken (now (steps .entry))) (now (out .entry)) ⌝ }
 {
     match spoken {

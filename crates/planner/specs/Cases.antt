@@ -10,6 +10,8 @@ use lib.Dec.{eqb}
 use lib.ListN.{length, take, drop, length-take, take-append-drop}
 use Rattle.costs.specs.Choice.{_if_otherwise_}
 use Rattle.costs.specs.declared.Cost.{Cost}
+use Rattle.replay.specs.Machine.{Rules, highest}
+use Rattle.replay.specs.Highest.{highest-none}
 use Rattle.window.specs.Pack.{pack}
 use Rattle.algebra.specs.GasBytes.{gas-bytes}
 use Rattle.astar.specs.Search.{Allowance, begin}
@@ -24,7 +26,7 @@ use Rattle.incumbent.specs.Hand.{Held, heldOf, handOf}
 use Rattle.incumbent.specs.Laws.{hand-bound, hand-origin, hand-steps}
 use Rattle.incumbent.specs.declared.Hand.{Hand}
 use Rattle.planner.specs.Refusal.{Asked, Lent, planRefusal}
-use Rattle.planner.specs.Planned.{questionOf, listed, planHeld, before, answered, fieldsOf, refused, stepsWith, plannedFor, WorkKept}
+use Rattle.planner.specs.Planned.{questionOf, listed, planHeld, before, answered, bareOf, fieldsOf, refused, stepsWith, plannedFor, WorkKept}
 use Rattle.planner.specs.declared.Answer.{Answer}
 
 -- the plan of no steps
@@ -46,15 +48,19 @@ module _ (a : Asked) where
   by-search h n = rw (h, ne-eqb (a .allowance .expansions) 0 n)
 
 -- an answer's fields and its step list
-abbrev pub given : Answered Cost ℕ → List ℕ → Answer × List ℕ
-given r old = (fieldsOf (r .plan) (r .ending) (r .expansions), stepsWith (r .plan) old)
+abbrev pub given : Rules → (start : List ℕ) → Answered Cost ℕ → List ℕ → Answer × List ℕ
+given q start r old = (fieldsOf q start (r .plan) (r .ending) (r .expansions), stepsWith (r .plan) old)
+
+-- without a step the highest window is the start
+pub still : (q : Rules) (start : List ℕ) → bareOf 0 1 0 0 (length start) ≡ fieldsOf q start (some noSteps) 0 0
+still q start = ap (bareOf 0 1 0 0) (sym (highest-none q start))
 
 -- a refused call, and an accepted one
 pub when-refused : (a : Asked) (l : Lent) (steps : List ℕ) (n : ℕ) → n ≡ planRefusal a l → (n ≡ 0 → ⊥) → plannedFor a l steps ≡ (refused n, steps)
 unfolding plannedFor
 when-refused a l steps n e h = rw (← e, ne-eqb n 0 h)
 
-pub when-accepted : (a : Asked) (l : Lent) (steps : List ℕ) → planRefusal a l ≡ 0 → plannedFor a l steps ≡ given (answered a) steps
+pub when-accepted : (a : Asked) (l : Lent) (steps : List ℕ) → planRefusal a l ≡ 0 → plannedFor a l steps ≡ given (a .rules) (a .start) (answered a) steps
 unfolding plannedFor
 when-accepted a l steps e = rw e
 
@@ -66,34 +72,36 @@ pub held-some : (h : Held) → (h .origin ≡ 0 → ⊥) → planHeld h ≡ some
 held-some h n = rw (ne-eqb (h .origin) 0 n)
 
 -- the same of what in_hand left in a list
-pub gives-none : (h : Hand) (held old : List ℕ) (e x : ℕ) (r : Answer) → h .origin ≡ 0 → r ≡ fieldsOf none e x →
-    (r, old) ≡ given (record { plan = planHeld (heldOf h held); ending = e; expansions = x }) old
-gives-none h held old e x r z k = rw (held-none (heldOf h held) z, k)
+pub gives-none : (q : Rules) (start : List ℕ) (h : Hand) (held old : List ℕ) (e x : ℕ) (r : Answer) → h .origin ≡ 0 → r ≡ bareOf 0 0 e x 0 →
+    (r, old) ≡ given q start (record { plan = planHeld (heldOf h held); ending = e; expansions = x }) old
+gives-none q start h held old e x r z k = rw (held-none (heldOf h held) z, k)
 
-pub gives-plan : (h : Hand) (held old new : List ℕ) (e x : ℕ) → (h .origin ≡ 0 → ⊥) → h .count ≤ length held → new ≡ take (h .count) held ++ drop (h .count) old → (
-  record {
-    refusal = 0;
-    found = 1;
-    «step_count» = h .count;
-    «plan_gas» = h .bound .gas;
-    «plan_bytes» = h .bound .bytes;
-    «ceiling_gas» = h .bound .gas;
-    «ceiling_bytes» = h .bound .bytes;
-    origin = h .origin;
-    ending = e;
-    expansions = x;
-  },
-  new,
-) ≡ given (record { plan = planHeld (heldOf h held); ending = e; expansions = x }) old
-gives-plan h held old new e x n l k =
+pub gives-plan : (q : Rules) (start : List ℕ) (h : Hand) (held old new : List ℕ) (e x high : ℕ) →
+    (h .origin ≡ 0 → ⊥) → h .count ≤ length held → new ≡ take (h .count) held ++ drop (h .count) old → high ≡ highest q (take (h .count) held) start → (
+      record {
+        refusal = 0;
+        found = 1;
+        «step_count» = h .count;
+        «plan_gas» = h .bound .gas;
+        «plan_bytes» = h .bound .bytes;
+        «ceiling_gas» = h .bound .gas;
+        «ceiling_bytes» = h .bound .bytes;
+        origin = h .origin;
+        ending = e;
+        expansions = x;
+        highest = high;
+      },
+      new,
+    ) ≡ given q start (record { plan = planHeld (heldOf h held); ending = e; expansions = x }) old
+gives-plan q start h held old new e x high n l k t =
     let m : length (take (h .count) held) ≡ h .count = length-take (h .count) held ∙ omega arith in
-    rw (held-some (heldOf h held) n, m, k)
+    rw (held-some (heldOf h held) n, m, k, t)
 
 -- ---- the search's outcome
 
 -- the fields of the search's own plan
-abbrev pub foundBySearch : Outcome → Answer
-foundBySearch r =
+abbrev pub foundBySearch : Outcome → (high : ℕ) → Answer
+foundBySearch r high =
     record {
       refusal = 0;
       found = 1;
@@ -105,6 +113,7 @@ foundBySearch r =
       origin = 3;
       ending = r .ending;
       expansions = r .expansions;
+      highest = high;
     }
 
 module _ (q : Question) (start : List ℕ) (l : Limits) (bound : Cost) (have : Bool) (r : Outcome) (xs ys : List ℕ) (S : Searched q start l bound have r xs ys) (held : Option (Found Cost ℕ)) (h : isGiven held ≡ have) where
@@ -122,14 +131,14 @@ module _ (q : Question) (start : List ℕ) (l : Limits) (bound : Cost) (have : B
   told-lost : r .found ≡ false → told held r ys ≡ record { plan = held; ending = r .ending; expansions = r .expansions }
   told-lost e = rw e
 
-  own-given : (foundBySearch r, ys) ≡ given (record { plan = some own; ending = r .ending; expansions = r .expansions }) xs
+  own-given : (foundBySearch r (highest (q .rules) (take (r .steps) ys) start), ys) ≡ given (q .rules) start (record { plan = some own; ending = r .ending; expansions = r .expansions }) xs
   own-given =
       let n : length (take (r .steps) ys) ≡ r .steps = length-take (r .steps) ys ∙ omega (arith, S .fits) in
       let t : take (r .steps) ys ++ drop (r .steps) xs ≡ ys = ap (λ (z : List ℕ). take (r .steps) ys ++ z) (sym (S .rest)) ∙ take-append-drop (r .steps) ys in
       rw (n, t)
 
-  pub searched-found : r .found ≡ true → (foundBySearch r, ys) ≡ given found xs
-  searched-found e = own-given ∙ ap (λ (a : Answered Cost ℕ). given a xs) (sym (told-found e) ∙ S .answer held h)
+  pub searched-found : r .found ≡ true → (foundBySearch r (highest (q .rules) (take (r .steps) ys) start), ys) ≡ given (q .rules) start found xs
+  searched-found e = own-given ∙ ap (λ (a : Answered Cost ℕ). given (q .rules) start a xs) (sym (told-found e) ∙ S .answer held h)
 
   pub searched-lost : r .found ≡ false → found ≡ record { plan = held; ending = r .ending; expansions = r .expansions }
   searched-lost e = sym (S .answer held h) ∙ told-lost e
@@ -158,10 +167,10 @@ held-is h old new r e =
     rw (a, b, d)
 
 -- an accepted answer has no number
-pub given-accepted : (a : Answered Cost ℕ) (r : Answer) (xs ys : List ℕ) → _≡_ {A = Answer × List ℕ} (r, ys) (given a xs) → r .refusal ≡ 0
-given-accepted a r xs ys e = ap (λ (z : Answer × List ℕ). z .0 .refusal) e ∙ go (a .plan)
+pub given-accepted : (q : Rules) (start : List ℕ) (a : Answered Cost ℕ) (r : Answer) (xs ys : List ℕ) → _≡_ {A = Answer × List ℕ} (r, ys) (given q start a xs) → r .refusal ≡ 0
+given-accepted q start a r xs ys e = ap (λ (z : Answer × List ℕ). z .0 .refusal) e ∙ go (a .plan)
   where
-    go : (o : Option (Found Cost ℕ)) → fieldsOf o (a .ending) (a .expansions) .refusal ≡ 0
+    go : (o : Option (Found Cost ℕ)) → fieldsOf q start o (a .ending) (a .expansions) .refusal ≡ 0
     go none = refl
     go (some p) = refl
 

@@ -1,22 +1,23 @@
--- A plan that is given, marked with its own ceiling, is marked 0.
+-- A plan that is given, replayed and marked with its own ceiling: it ends at the goal, is marked 0, and its highest window is told alike.
 use Prim.Native.Nat.{ℕ, _≤_, max}
 use mathlib.Core.Bool.{Bool, true, false, _||_}
-use mathlib.Core.List.{List}
+use mathlib.Core.List.{List, _++_}
 use mathlib.Core.Option.{some}
 use mathlib.Core.Path.{_≡_, refl, ap, sym, _∙_}
 use native.Mathlib.Omega.{arith}
 use borrow.Author.Tests.{le-ltb}
 use lib.Dec.{eqb, ltb}
-use lib.ListN.{length}
+use lib.ListN.{length, drop}
 use Rattle.costs.specs.Choice.{_if_otherwise_}
 use Rattle.costs.specs.Cost.{noMore}
 use Rattle.costs.specs.Price.{costForSteps}
 use Rattle.costs.specs.Table.{anyOver, kindsFault, pricesFault}
 use Rattle.costs.specs.declared.Cost.{Cost}
-use Rattle.replay.specs.Machine.{Rules, Outcome, ends, ranOn}
-use Rattle.replay.specs.Replay.{reachFault}
+use Rattle.replay.specs.Machine.{Rules, Outcome, ends, ranOn, highest}
+use Rattle.replay.specs.Replay.{reachFault, replayed}
+use Rattle.replay.specs.Laws.{replayed-to}
 use Rattle.marking.specs.Marking.{sameKeys, markRefusal, markOutcome, answerOf, marked}
-use Rattle.marking.specs.Laws.{same-refl, outcome-runs}
+use Rattle.marking.specs.Laws.{same-refl, outcome-runs, replays}
 use Rattle.algebra.specs.GasBytes.{gas-bytes, le-is}
 use Rattle.astar.specs.Tests.{T-true}
 use Rattle.astar.specs.Planner.{Found}
@@ -45,17 +46,29 @@ mark-accepted a l ok n h =
       le-ltb (a .rules .maxLen) (length (a .goal)) (ok .goal-fits),
     )
 
+few-steps : (a : Asked) (l : Lent) (ok : Accepted a l) (p : Found Cost ℕ) → Sound a p → length (p .steps) ≤ 65536
+few-steps a l ok p s = omega (arith, s .few, ok .expansions)
+
+-- what replay answers, with any result list that it takes
+pub replayed-own : (a : Asked) (l : Lent) → planRefusal a l ≡ 0 → (p : Found Cost ℕ) → answered a .plan ≡ some p → (result : List ℕ) → 21 ≤ length result →
+    replayed (a .rules) (a .start) (p .steps) result ≡ (record { refusal = 0; index = 0; length = length (a .goal); highest = highest (a .rules) (p .steps) (a .start) }, a .goal ++ drop (length (a .goal)) result)
+replayed-own a l h p f result room =
+    let ok = accepted a l h in
+    let s = plan-sound a l ok p f in
+    replayed-to (a .rules) (a .start) (p .steps) (a .goal) result
+    (replays (a .rules) (a .prices) (a .start) (a .goal) (length (p .steps)) (length result) room (mark-accepted a l ok (length (p .steps)) (few-steps a l ok p s)))
+    (s .replays)
+
 pub marked-own : (a : Asked) (l : Lent) → planRefusal a l ≡ 0 → (p : Found Cost ℕ) → answered a .plan ≡ some p →
-    marked (a .rules) (a .prices) (a .start) (a .goal) (p .steps) (p .ceiling) ≡ record { refusal = 0; index = 0; mark = 0 }
+    marked (a .rules) (a .prices) (a .start) (a .goal) (p .steps) (p .ceiling) ≡ record { refusal = 0; index = 0; mark = 0; highest = highest (a .rules) (p .steps) (a .start) }
 unfolding marked
 marked-own a l h p f =
     let ok = accepted a l h in
     let s = plan-sound a l ok p f in
-    let few : length (p .steps) ≤ 65536 = omega (arith, s .few, ok .expansions) in
     let within : noMore (costForSteps (a .prices) (p .steps)) (p .ceiling) ≡ true =
     ap (λ (c : Cost). noMore c (p .ceiling)) (sym (s .cost-is)) ∙ sym (le-is (p .cost) (p .ceiling)) ∙ T-true (gas-bytes .le (p .cost) (p .ceiling)) (plan-within a l ok p f)
     in
     let end : markOutcome (a .rules) (a .prices) (a .start) (a .goal) (p .steps) ≡ ends (a .goal) =
-    outcome-runs (a .rules) (a .prices) (a .start) (a .goal) (p .steps) (mark-accepted a l ok (length (p .steps)) few) ∙ s .replays
+    outcome-runs (a .rules) (a .prices) (a .start) (a .goal) (p .steps) (mark-accepted a l ok (length (p .steps)) (few-steps a l ok p s)) ∙ s .replays
     in
     rw (end, within, same-refl (a .goal))

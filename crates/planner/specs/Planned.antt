@@ -9,7 +9,7 @@ use Rattle.costs.specs.Choice.{_if_otherwise_}
 use Rattle.costs.specs.declared.Cost.{Cost}
 use Rattle.costs.specs.Price.{priceOf}
 use Rattle.costs.specs.Step.{decoded}
-use Rattle.replay.specs.Machine.{Rules}
+use Rattle.replay.specs.Machine.{Rules, highest}
 use Rattle.algebra.specs.GasBytes.{gas-bytes}
 use Rattle.astar.specs.Planner.{Found, Answer as Answered, planned}
 use Rattle.successors.specs.Successors.{Question}
@@ -40,8 +40,8 @@ answered a =
     planned gas-bytes (problemOf (questionOf a) (a .start)) (listed (a .prices)) 50 (before a .bound) (planHeld (before a)) (a .allowance)
 
 -- zeros but for these
-abbrev pub bareOf : (refusal found ending expansions : ℕ) → Answer
-bareOf refusal found ending expansions =
+abbrev pub bareOf : (refusal found ending expansions high : ℕ) → Answer
+bareOf refusal found ending expansions high =
     record {
       refusal = refusal;
       found = found;
@@ -53,12 +53,13 @@ bareOf refusal found ending expansions =
       origin = 0;
       ending = ending;
       expansions = expansions;
+      highest = high;
     }
 
--- the nine fields, without a plan and with one (document 01, "The planner's answer")
-abbrev pub fieldsOf : Option (Found Cost ℕ) → (ending expansions : ℕ) → Answer
-fieldsOf none ending expansions = bareOf 0 0 ending expansions
-fieldsOf (some p) ending expansions =
+-- the fields, without a plan and with one (document 01, "The planner's answer"); the highest window is that of the plan's steps (request U1)
+abbrev pub fieldsOf : Rules → (start : List ℕ) → Option (Found Cost ℕ) → (ending expansions : ℕ) → Answer
+fieldsOf q start none ending expansions = bareOf 0 0 ending expansions 0
+fieldsOf q start (some p) ending expansions =
     record {
       refusal = 0;
       found = 1;
@@ -70,11 +71,12 @@ fieldsOf (some p) ending expansions =
       origin = p .origin;
       ending = ending;
       expansions = expansions;
+      highest = highest q (p .steps) start;
     }
 
 -- a refusal: zeros beside the number
 abbrev pub refused : ℕ → Answer
-refused n = bareOf n 0 0 0
+refused n = bareOf n 0 0 0 0
 
 -- the step list: the plan over its first places, behind it what stood there
 abbrev pub stepsWith : Option (Found Cost ℕ) → List ℕ → List ℕ
@@ -84,7 +86,7 @@ stepsWith (some p) old = p .steps ++ drop (length (p .steps)) old
 -- the answer and the step list at exit, on all input
 unfoldable pub plannedFor : Asked → Lent → List ℕ → Answer × List ℕ
 plannedFor a l steps =
-    (fieldsOf (answered a .plan) (answered a .ending) (answered a .expansions), stepsWith (answered a .plan) steps) if eqb (planRefusal a l) 0 otherwise
+    (fieldsOf (a .rules) (a .start) (answered a .plan) (answered a .ending) (answered a .expansions), stepsWith (answered a .plan) steps) if eqb (planRefusal a l) 0 otherwise
     (refused (planRefusal a l), steps)
 
 -- a work list keeps its length, and beside a refusal its content; after an accepted call the content is free

@@ -13,6 +13,7 @@ use lib.Seq.{take-at}
 use Rattle.costs.specs.Choice.{_if_otherwise_}
 use Rattle.costs.specs.Cost.{noMore}
 use Rattle.costs.specs.declared.Cost.{Cost}
+use Rattle.replay.specs.Machine.{Rules}
 use Rattle.algebra.specs.GasBytes.{gas-bytes, le-is, domain-fits}
 use Rattle.astar.specs.Search.{Allowance}
 use Rattle.astar.specs.Again.{_⊑_}
@@ -77,62 +78,64 @@ steady-answers a A A′ l more ok =
 
 -- ---- as fields
 
--- the fields of an answer, and its step list
-abbrev pub fields : Answered Cost ℕ → Answer
-fields r = fieldsOf (r .plan) (r .ending) (r .expansions)
-
-pub no-plan : (o : Option (Found Cost ℕ)) (e x : ℕ) → fieldsOf o e x .found ≡ 1 → (p : Found Cost ℕ) × (o ≡ some p)
-no-plan none e x h = absurd (omega arith)
-no-plan (some p) e x h = (p, refl)
-
-ended : (o : Option (Found Cost ℕ)) (e x : ℕ) → fieldsOf o e x .ending ≡ e
-ended none e x = refl
-ended (some p) e x = refl
-
 pub le-more : (c d : Cost) → T (gas-bytes .le c d) → noMore c d ≡ true
 le-more c d h = sym (le-is c d) ∙ T-true (gas-bytes .le c d) h
 
--- the first step_count entries of the step list are the plan, whatever was there
+-- the plan's steps
 abbrev pub plan-of : Option (Found Cost ℕ) → List ℕ
 plan-of none = []
 plan-of (some p) = p .steps
 
-pub taken : (o : Option (Found Cost ℕ)) (e x : ℕ) (xs : List ℕ) → take (fieldsOf o e x .«step_count») (stepsWith o xs) ≡ plan-of o
-taken none e x xs = refl
-taken (some p) e x xs = take-at (p .steps) (drop (length (p .steps)) xs) (length (p .steps)) refl
+module _ (q : Rules) (start : List ℕ) where
+  -- the fields of an answer, and its step list
+  abbrev pub fields : Answered Cost ℕ → Answer
+  fields r = fieldsOf q start (r .plan) (r .ending) (r .expansions)
 
--- of two plans, and of one
-mark-falls : (o u : Option (Found Cost ℕ)) (e x i y : ℕ) (p q : Found Cost ℕ) → o ≡ some p → u ≡ some q → T (gas-bytes .le (q .ceiling) (p .ceiling)) →
-    noMore (passMark (fieldsOf u i y)) (passMark (fieldsOf o e x)) ≡ true
-mark-falls o u e x i y p q f g h = rw (f, g) (le-more (q .ceiling) (p .ceiling) h)
+  pub no-plan : (o : Option (Found Cost ℕ)) (e x : ℕ) → fieldsOf q start o e x .found ≡ 1 → (p : Found Cost ℕ) × (o ≡ some p)
+  no-plan none e x h = absurd (omega arith)
+  no-plan (some p) e x h = (p, refl)
 
-cost-within : (o : Option (Found Cost ℕ)) (e x : ℕ) (p : Found Cost ℕ) → o ≡ some p → T (gas-bytes .le (p .cost) (p .ceiling)) → noMore (planCost (fieldsOf o e x)) (passMark (fieldsOf o e x)) ≡ true
-cost-within o e x p f h = rw f (le-more (p .cost) (p .ceiling) h)
+  ended : (o : Option (Found Cost ℕ)) (e x : ℕ) → fieldsOf q start o e x .ending ≡ e
+  ended none e x = refl
+  ended (some p) e x = refl
 
-is-found : (o : Option (Found Cost ℕ)) (e x : ℕ) (p : Found Cost ℕ) → o ≡ some p → fieldsOf o e x .found ≡ 1
-is-found o e x p f = rw f
+  -- the first step_count entries of the step list are the plan, whatever was there
+  pub taken : (o : Option (Found Cost ℕ)) (e x : ℕ) (xs : List ℕ) → take (fieldsOf q start o e x .«step_count») (stepsWith o xs) ≡ plan-of o
+  taken none e x xs = refl
+  taken (some p) e x xs = take-at (p .steps) (drop (length (p .steps)) xs) (length (p .steps)) refl
 
-pub steady-fields : (r s : Answered Cost ℕ) (xs ys : List ℕ) → Steady gas-bytes ℕ r s → Demand3 (fields r) (stepsWith (r .plan) xs) (fields s) (stepsWith (s .plan) ys)
-steady-fields r s xs ys d =
-    record {
-      stays = λ h. let p = no-plan (r .plan) (r .ending) (r .expansions) h in let q = d .stays (p .0) (p .1) in is-found (s .plan) (s .ending) (s .expansions) (q .0) (q .1);
-      no-higher = λ h.
-          let p = no-plan (r .plan) (r .ending) (r .expansions) h in
-          let q = d .stays (p .0) (p .1) in
-          mark-falls (r .plan) (s .plan) (r .ending) (r .expansions) (s .ending) (s .expansions) (p .0) (q .0) (p .1) (q .1) (q .2);
-      first-within = λ h.
-          let p = no-plan (r .plan) (r .ending) (r .expansions) h in
-          cost-within (r .plan) (r .ending) (r .expansions) (p .0) (p .1) (d .within-a (p .0) (p .1));
-      second-within = λ h.
-          let p = no-plan (s .plan) (s .ending) (s .expansions) h in
-          cost-within (s .plan) (s .ending) (s .expansions) (p .0) (p .1) (d .within-b (p .0) (p .1));
-      same-fields = λ h. ap fields (d .settled (subst Settled (ended (r .plan) (r .ending) (r .expansions)) h));
-      same-steps = λ h.
-          let e = d .settled (subst Settled (ended (r .plan) (r .ending) (r .expansions)) h) in
-          taken (r .plan) (r .ending) (r .expansions) xs
-          ∙ ap (λ (t : Answered Cost ℕ). plan-of (t .plan)) e
-          ∙ sym (taken (s .plan) (s .ending) (s .expansions) ys);
-    }
+  -- of two plans, and of one
+  mark-falls : (o u : Option (Found Cost ℕ)) (e x i y : ℕ) (p v : Found Cost ℕ) → o ≡ some p → u ≡ some v → T (gas-bytes .le (v .ceiling) (p .ceiling)) →
+      noMore (passMark (fieldsOf q start u i y)) (passMark (fieldsOf q start o e x)) ≡ true
+  mark-falls o u e x i y p v f g h = rw (f, g) (le-more (v .ceiling) (p .ceiling) h)
+
+  cost-within : (o : Option (Found Cost ℕ)) (e x : ℕ) (p : Found Cost ℕ) → o ≡ some p → T (gas-bytes .le (p .cost) (p .ceiling)) → noMore (planCost (fieldsOf q start o e x)) (passMark (fieldsOf q start o e x)) ≡ true
+  cost-within o e x p f h = rw f (le-more (p .cost) (p .ceiling) h)
+
+  is-found : (o : Option (Found Cost ℕ)) (e x : ℕ) (p : Found Cost ℕ) → o ≡ some p → fieldsOf q start o e x .found ≡ 1
+  is-found o e x p f = rw f
+
+  pub steady-fields : (r s : Answered Cost ℕ) (xs ys : List ℕ) → Steady gas-bytes ℕ r s → Demand3 (fields r) (stepsWith (r .plan) xs) (fields s) (stepsWith (s .plan) ys)
+  steady-fields r s xs ys d =
+      record {
+        stays = λ h. let p = no-plan (r .plan) (r .ending) (r .expansions) h in let v = d .stays (p .0) (p .1) in is-found (s .plan) (s .ending) (s .expansions) (v .0) (v .1);
+        no-higher = λ h.
+            let p = no-plan (r .plan) (r .ending) (r .expansions) h in
+            let v = d .stays (p .0) (p .1) in
+            mark-falls (r .plan) (s .plan) (r .ending) (r .expansions) (s .ending) (s .expansions) (p .0) (v .0) (p .1) (v .1) (v .2);
+        first-within = λ h.
+            let p = no-plan (r .plan) (r .ending) (r .expansions) h in
+            cost-within (r .plan) (r .ending) (r .expansions) (p .0) (p .1) (d .within-a (p .0) (p .1));
+        second-within = λ h.
+            let p = no-plan (s .plan) (s .ending) (s .expansions) h in
+            cost-within (s .plan) (s .ending) (s .expansions) (p .0) (p .1) (d .within-b (p .0) (p .1));
+        same-fields = λ h. ap fields (d .settled (subst Settled (ended (r .plan) (r .ending) (r .expansions)) h));
+        same-steps = λ h.
+            let e = d .settled (subst Settled (ended (r .plan) (r .ending) (r .expansions)) h) in
+            taken (r .plan) (r .ending) (r .expansions) xs
+            ∙ ap (λ (t : Answered Cost ℕ). plan-of (t .plan)) e
+            ∙ sym (taken (s .plan) (s .ending) (s .expansions) ys);
+      }
 
 -- ---- the claim
 
@@ -142,7 +145,7 @@ pub demand-3 : (a : Asked) (A A′ : Allowance) (l m : Lent) (xs ys : List ℕ) 
 unfolding plannedFor
 demand-3 a A A′ l m xs ys more h k =
     rw (h, k)
-    (steady-fields (answered (allowing a A)) (answered (allowing a A′)) xs ys (steady-answers a A A′ m more (accepted (allowing a A′) m k)))
+    (steady-fields (a .rules) (a .start) (answered (allowing a A)) (answered (allowing a A′)) xs ys (steady-answers a A A′ m more (accepted (allowing a A′) m k)))
 
 -- no number beside an answer: the question was accepted
 abbrev chosen : Answer × List ℕ → List ℕ → ℕ → Answer × List ℕ
@@ -154,7 +157,7 @@ chosen-zero t xs (suc n) h = let k : eqb (suc n) 0 ≡ false = ne-eqb (suc n) 0 
 
 accepted-answer : (a : Asked) (l : Lent) (xs : List ℕ) → plannedFor a l xs .0 .refusal ≡ 0 → planRefusal a l ≡ 0
 unfolding plannedFor
-accepted-answer a l xs h = chosen-zero (fields (answered a), stepsWith (answered a .plan) xs) xs (planRefusal a l) h
+accepted-answer a l xs h = chosen-zero (fields (a .rules) (a .start) (answered a), stepsWith (answered a .plan) xs) xs (planRefusal a l) h
 
 -- the same of two answers as their callers got them
 pub demand-3-called : (a : Asked) (A A′ : Allowance) (l m : Lent) (xs ys : List ℕ) (r s : Answer) (xs′ ys′ : List ℕ) →

@@ -6,7 +6,6 @@ use solve::Outcome;
 use window::PackedState;
 ghost use mathlib.Core.Path.{_≡_};
 ghost use mathlib.Core.Bool.{_||_};
-ghost use mathlib.Core.Option.{none, some};
 ghost use Prim.Native.Nat.{_+_, _≤_, max};
 ghost use lib.Dec.{eqb, ltb};
 ghost use lib.ListN.{length};
@@ -15,15 +14,15 @@ ghost use Rattle.costs.specs.Table.{anyOver, kindsFault, pricesFault};
 ghost use Rattle.replay.specs.Machine.{rules, ruled};
 ghost use Rattle.window.specs.Pack.{Keys, pack};
 ghost use Rattle.incumbent.specs.Hand.{heldOf};
-ghost use Rattle.planner.specs.Planned.{answered, listed, planHeld, plannedFor, WorkKept, bareOf, fieldsOf, refused, stepsWith};
+ghost use Rattle.planner.specs.Planned.{answered, listed, planHeld, plannedFor, WorkKept, bareOf, refused};
 ghost use Rattle.algebra.specs.GasBytes.{«gas-bytes»};
 ghost use Rattle.astar.specs.Planner.{searched};
 ghost use Rattle.successors.specs.Whole.{asked as sought};
 ghost use Rattle.problem.specs.Problem.{problemOf};
-ghost use Rattle.planner.specs.Cases.{noSteps, given, foundBySearch};
+ghost use Rattle.planner.specs.Cases.{given, foundBySearch};
 ghost use Rattle.planner.specs.Refusal.{asked, allowances, lent, allowanceFault, overLength, shortLists, planRefusal};
 
-// What the planner answers: the number of a refusal or 0, and document 01's nine fields.
+// What the planner answers: the number of a refusal or 0, document 01's nine fields, and the plan's highest window.
 #[repr(C)]
 pub struct Answer {
     pub refusal: u32,
@@ -36,6 +35,7 @@ pub struct Answer {
     pub origin: u32,
     pub ending: u32,
     pub expansions: usize,
+    pub highest: usize,
 }
 
 // Expansions, and states without and with a plan in hand.
@@ -51,12 +51,6 @@ pub struct Lengths {
     pub nodes: usize,
     pub heads: usize,
     pub list: usize,
-}
-
-fn greater(a: usize, b: usize) -> usize
-    ensures { λ r. ⌜ r ≡ max a b ⌝ }
-{
-    if a < b { b } else { a }
 }
 
 // Row 3.
@@ -83,7 +77,7 @@ fn fewer(n: usize, a: Allowances) -> bool
     if n < 50 {
         return true;
     }
-    n - 50 < greater(a.states_without, a.states_with)
+    n - 50 < costs::greater(a.states_without, a.states_with)
 }
 
 // Row 7.
@@ -96,7 +90,7 @@ fn short_lists(a: Allowances, l: Lengths) -> bool
             fewer(l.heads, a),
             costs::either(
                 fewer(l.list / 4, a),
-                l.steps < greater(128, a.max_expansions),
+                l.steps < costs::greater(128, a.max_expansions),
             ),
         ),
     )
@@ -160,8 +154,8 @@ fn refusal(
 
 impl Answer {
     // Zeros but for these.
-    fn bare(refusal: u32, found: u32, ending: u32, expansions: usize) -> Answer
-        ensures { λ r. ⌜ r ≡ bareOf refusal found ending expansions ⌝ }
+    fn bare(refusal: u32, found: u32, ending: u32, expansions: usize, highest: usize) -> Answer
+        ensures { λ r. ⌜ r ≡ bareOf refusal found ending expansions highest ⌝ }
     {
         Answer {
             refusal,
@@ -174,6 +168,7 @@ impl Answer {
             origin: 0,
             ending,
             expansions,
+            highest,
         }
     }
 
@@ -181,21 +176,21 @@ impl Answer {
     fn refused(n: u32) -> Answer
         ensures { λ r. ⌜ r ≡ refused n ⌝ }
     {
-        Answer::bare(n, 0, 0, 0)
+        Answer::bare(n, 0, 0, 0, 0)
     }
 
     // No plan.
     fn nothing(ending: u32, expansions: usize) -> Answer
-        ensures { λ r. ⌜ r ≡ fieldsOf none ending expansions ⌝ }
+        ensures { λ r. ⌜ r ≡ bareOf 0 0 ending expansions 0 ⌝ }
     {
-        Answer::bare(0, 0, ending, expansions)
+        Answer::bare(0, 0, ending, expansions, 0)
     }
 
-    // The start is the goal.
-    fn no_steps() -> Answer
-        ensures { λ r. ⌜ r ≡ fieldsOf (some noSteps) 0 0 ⌝ }
+    // The start, of n keys, is the goal.
+    fn no_steps(n: usize) -> Answer
+        ensures { λ r. ⌜ r ≡ bareOf 0 1 0 0 n ⌝ }
     {
-        Answer::bare(0, 1, 0, 0)
+        Answer::bare(0, 1, 0, 0, n)
     }
 }
 
@@ -210,9 +205,20 @@ fn same_window(start: &[u8], goal: &[u8]) -> bool
 }
 
 // The builders' plan, if there is one, over the first places of the step list.
-fn give_held(hand: Hand, held: &[u16], steps: &mut [u16], ending: u32, expansions: usize) -> Answer
+fn give_held(
+    hand: Hand,
+    held: &[u16],
+    steps: &mut [u16],
+    start: &[u8],
+    cfg: SearchCfg,
+    kinds: &[u8],
+    ending: u32,
+    expansions: usize,
+) -> Answer
     requires { ⌜ (hand .count ≤ 128) × (128 ≤ length (now held)) × (128 ≤ length (now steps)) ⌝ }
-    ensures { λ r. ⌜ (r, now (steps .exit)) ≡ given (record { plan = planHeld (heldOf hand (now (held .entry))); ending = ending; expansions = expansions }) (now (steps .entry)) ⌝ }
+    requires { ⌜ (length (now kinds) ≡ 64) × (cfg .«max_len» ≤ 21) ⌝ }
+    ensures { λ r. ⌜ (r, now (steps .exit)) ≡ given (ruled cfg (now (kinds .entry))) (now (start .entry))
+        (record { plan = planHeld (heldOf hand (now (held .entry))); ending = ending; expansions = expansions }) (now (steps .entry)) ⌝ }
 {
     let count = hand.count;
     let bound = hand.bound;
@@ -221,6 +227,7 @@ fn give_held(hand: Hand, held: &[u16], steps: &mut [u16], ending: u32, expansion
         return Answer::nothing(ending, expansions);
     }
     builders::give(held, count, steps);
+    let highest = replay::highest(cfg, kinds, start, &held[..count]);
     Answer {
         refusal: 0,
         found: 1,
@@ -232,12 +239,13 @@ fn give_held(hand: Hand, held: &[u16], steps: &mut [u16], ending: u32, expansion
         origin,
         ending,
         expansions,
+        highest,
     }
 }
 
-// The plan of the search.
-fn search_plan(r: Outcome) -> Answer
-    ensures { λ a. ⌜ a ≡ foundBySearch r ⌝ }
+// The plan of the search, with its highest window.
+fn search_plan(r: Outcome, highest: usize) -> Answer
+    ensures { λ a. ⌜ a ≡ foundBySearch r highest ⌝ }
 {
     let cost = r.cost;
     let ceiling = r.ceiling;
@@ -253,6 +261,7 @@ fn search_plan(r: Outcome) -> Answer
         origin: 3,
         ending: r.ending,
         expansions: r.expansions,
+        highest,
     }
 }
 
@@ -274,7 +283,7 @@ fn with_search(
     requires { ⌜ planRefusal (asked (ruled cfg (now kinds)) (now prices) (now start) (now goal) (allowances (a .«max_expansions») (a .«states_without») (a .«states_with»)))
         (lent (length (now steps)) (length (now nodes)) (length (now heads)) (length (now list))) ≡ 0 ⌝ }
     requires { ⌜ (hand .count ≤ 128) × (128 ≤ length (now held)) ⌝ }
-    ensures { λ r. ⌜ (r, now (steps .exit)) ≡ given
+    ensures { λ r. ⌜ (r, now (steps .exit)) ≡ given (ruled cfg (now (kinds .entry))) (now (start .entry))
         (searched «gas-bytes» (problemOf (sought cfg (now (kinds .entry)) (now (prices .entry)) (now (goal .entry))) (now (start .entry))) (listed (now (prices .entry))) 50
         (hand .bound) (planHeld (heldOf hand (now (held .entry)))) (allowances (a .«max_expansions») (a .«states_without») (a .«states_with»)))
         (now (steps .entry)) ⌝ }
@@ -300,9 +309,11 @@ fn with_search(
         have,
     );
     if r.found {
-        return search_plan(r);
+        let count = r.steps;
+        let highest = replay::highest(cfg, kinds, start, &steps[..count]);
+        return search_plan(r, highest);
     }
-    give_held(hand, held, steps, r.ending, r.expansions)
+    give_held(hand, held, steps, start, cfg, kinds, r.ending, r.expansions)
 }
 
 // An accepted planning: the start is the goal, or no expansion is allowed, or the search.
@@ -320,17 +331,17 @@ fn accepted_plan(
 ) -> Answer
     requires { ⌜ planRefusal (asked (ruled cfg (now kinds)) (now prices) (now start) (now goal) (allowances (a .«max_expansions») (a .«states_without») (a .«states_with»)))
         (lent (length (now steps)) (length (now nodes)) (length (now heads)) (length (now list))) ≡ 0 ⌝ }
-    ensures { λ r. ⌜ (r, now (steps .exit)) ≡ given
+    ensures { λ r. ⌜ (r, now (steps .exit)) ≡ given (ruled cfg (now (kinds .entry))) (now (start .entry))
         (answered (asked (ruled cfg (now (kinds .entry))) (now (prices .entry)) (now (start .entry)) (now (goal .entry)) (allowances (a .«max_expansions») (a .«states_without») (a .«states_with»))))
         (now (steps .entry)) ⌝ }
 {
     if same_window(start, goal) {
-        return Answer::no_steps();
+        return Answer::no_steps(start.len());
     }
     let mut held: [u16; 128] = [0; 128];
     let hand = incumbent::in_hand(start, goal, cfg, kinds, prices, &mut held);
     if a.max_expansions == 0 {
-        return give_held(hand, &held, steps, 1, 0);
+        return give_held(hand, &held, steps, start, cfg, kinds, 1, 0);
     }
     with_search(
         nodes,

@@ -4,3 +4,4 @@ pub mod Laws
 pub mod Held
 pub mod Worked
 pub mod Steps
+pub mod Highest

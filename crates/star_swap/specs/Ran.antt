@@ -15,8 +15,7 @@ use Rattle.costs.specs.Step.{decoded}
 use Rattle.costs.specs.declared.Step.the-variants.{Swap}
 use Rattle.costs.specs.declared.Decoded.the-variants.{Known}
 use Rattle.replay.specs.Machine.{Rules, allows, after, onward, ranOn, ends}
-use Rattle.replay.specs.Replay.{replayRefusal, replayOutcome, replayed}
-use Rattle.replay.specs.Laws.{and-left, and-right, outcome-accepted}
+use Rattle.replay.specs.Laws.{and-left, and-right}
 use Rattle.star_swap.specs.Count.{cnt, cntBy, δ-refl, δ-neg}
 use Rattle.star_swap.specs.Star.{at, run, swapAt, starSwaps, codes}
 use Rattle.star_swap.specs.Exec.{swap-length}
@@ -97,10 +96,3 @@ ran-routes q i (d ∷ S) w goal m e =
     go h true z f =
         let s : after (Swap d) w ≡ swapAt w d = unfold after in refl in
         next (h (rw s at f)) (allowed-swap q d (length w) z)
-
--- steps that lead to the goal, as a caller of replay sees them
-pub replayed-to : (q : Rules) (start plan goal result : List ℕ) → replayRefusal q start (length plan) (length result) ≡ 0 → ranOn q 0 plan start ≡ ends goal →
-    replayed q start plan result ≡ (record { refusal = 0; index = 0; length = length goal }, goal ++ drop (length goal) result)
-replayed-to q start plan goal result h e =
-    let o : replayOutcome q start plan (length result) ≡ ends goal = outcome-accepted q start plan (length result) h ∙ e in
-    rw o

@@ -7,8 +7,9 @@ use native.Mathlib.Omega.{arith}
 use borrow.Author.Tests.{eq-eqb}
 use lib.ListN.{length, take, drop, replicate, length-map}
 use Rattle.costs.specs.Choice.{_if_otherwise_}
-use Rattle.replay.specs.Machine.{Rules, ranOn, ends}
+use Rattle.replay.specs.Machine.{Rules, ranOn, ends, highest}
 use Rattle.replay.specs.Replay.{replayRefusal, replayed}
+use Rattle.replay.specs.Laws.{replayed-to}
 use Rattle.star_swap.specs.Count.{cnt}
 use Rattle.star_swap.specs.Star.{at, pick, trailLoop, trail, lastOf, circuits, misplaced, starSwaps, code, codes}
 use Rattle.star_swap.specs.StarLoop.{star-few}
@@ -17,7 +18,7 @@ use Rattle.star_swap.specs.Tests.{by-test}
 use Rattle.star_swap.specs.Refusal.{unroutable, builderRefusal, swapRefusal, starSwapped}
 use Rattle.star_swap.specs.Check.{Taken, taken, taken-refusal, higher-row, start-window, goal-window}
 use Rattle.star_swap.specs.Routable.{small-of, routable-routed, routed-routable}
-use Rattle.star_swap.specs.Ran.{ran-star, ran-routes, replayed-to}
+use Rattle.star_swap.specs.Ran.{ran-star, ran-routes}
 use Rattle.star_swap.specs.Call.{written-read, swap-routed, swap-pair}
 
 module _ (sm : ℕ) (start goal : List ℕ) (places : ℕ) where
@@ -71,7 +72,7 @@ module _ (q : Rules) (start goal : List ℕ) where
 
   -- and as replay answers it, for rules that replay accepts
   pub star-swap-replayed : (places : ℕ) (result : List ℕ) → swapRefusal (q .swapMax) start goal places ≡ 0 → replayRefusal q start (length (codes (starSwaps start goal))) (length result) ≡ 0 →
-      replayed q start (codes (starSwaps start goal)) result ≡ (record { refusal = 0; index = 0; length = length goal }, goal ++ drop (length goal) result)
+      replayed q start (codes (starSwaps start goal)) result ≡ (record { refusal = 0; index = 0; length = length goal; highest = highest q (codes (starSwaps start goal)) start }, goal ++ drop (length goal) result)
   star-swap-replayed places result h a = replayed-to q start (codes (starSwaps start goal)) goal result a (star-swap-reaches places h)
 
   -- where star-swap gives 9, the machine of that reach carries out no list of swaps from the start to the goal

@@ -8,7 +8,7 @@ use Rattle.costs.specs.Cost.{plus, noMore}
 use Rattle.costs.specs.Step.{decoded}
 use Rattle.costs.specs.Table.{kindsFault, pricesFault}
 use Rattle.window.specs.Packing.{packRefusal, packing}
-use Rattle.replay.specs.Machine.{rules, room, immediate, value, allows, after, ranOn}
+use Rattle.replay.specs.Machine.{rules, room, immediate, value, allows, after, ranOn, passes, highest}
 use Rattle.replay.specs.Replay.{reachFault, replayRefusal, replayOutcome, replayed}
 use Rattle.star_swap.specs.Star.{pick, trailLoop, trail, lastOf, circuits, misplaced, starSwaps}
 use Rattle.star_swap.specs.Refusal.{unroutable, builderRefusal, starSwapped}
@@ -52,8 +52,8 @@ abbrev desk : Lent
 desk = lent 128 8400 1050 4200
 
 -- an answer with a plan whose cost is its ceiling, without a search
-abbrev builders : (count gas bytes origin : ℕ) → Answer
-builders count gas bytes origin =
+abbrev builders : (count gas bytes origin high : ℕ) → Answer
+builders count gas bytes origin high =
     record {
       refusal = 0;
       found = 1;
@@ -65,27 +65,28 @@ builders count gas bytes origin =
       origin = origin;
       ending = 1;
       expansions = 0;
+      highest = high;
     }
 
 -- no plan, and no search
 abbrev notFound : Answer
-notFound = record { refusal = 0; found = 0; «step_count» = 0; «plan_gas» = 0; «plan_bytes» = 0; «ceiling_gas» = 0; «ceiling_bytes» = 0; origin = 0; ending = 1; expansions = 0 }
+notFound = record { refusal = 0; found = 0; «step_count» = 0; «plan_gas» = 0; «plan_bytes» = 0; «ceiling_gas» = 0; «ceiling_bytes» = 0; origin = 0; ending = 1; expansions = 0; highest = 0 }
 
--- the start is the goal
-abbrev atGoal : Answer
-atGoal = record { refusal = 0; found = 1; «step_count» = 0; «plan_gas» = 0; «plan_bytes» = 0; «ceiling_gas» = 0; «ceiling_bytes» = 0; origin = 0; ending = 0; expansions = 0 }
+-- the start, so long, is the goal
+abbrev atGoal : ℕ → Answer
+atGoal n = record { refusal = 0; found = 1; «step_count» = 0; «plan_gas» = 0; «plan_bytes» = 0; «ceiling_gas» = 0; «ceiling_bytes» = 0; origin = 0; ending = 0; expansions = 0; highest = n }
 
 pub record Starred : Type 0 where
   -- two keys to none: two Pops of dup-and-star
-  pub two-pops : plannedFor (ask 16 17 21 (0 ∷ 1 ∷ []) []) desk lines ≡ (builders 2 4 2 2, 0 ∷ 0 ∷ replicate 126 9999)
+  pub two-pops : plannedFor (ask 16 17 21 (0 ∷ 1 ∷ []) []) desk lines ≡ (builders 2 4 2 2 2, 0 ∷ 0 ∷ replicate 126 9999)
   -- one key to two of it: a Dup
-  pub one-dup : plannedFor (ask 16 17 21 (0 ∷ []) (0 ∷ 0 ∷ [])) desk lines ≡ (builders 1 3 1 2, 256 ∷ replicate 127 9999)
+  pub one-dup : plannedFor (ask 16 17 21 (0 ∷ []) (0 ∷ 0 ∷ [])) desk lines ≡ (builders 1 3 1 2 2, 256 ∷ replicate 127 9999)
   -- and no plan where nothing may be dupped
   pub no-dup : plannedFor (ask 0 17 21 (0 ∷ []) (0 ∷ 0 ∷ [])) desk lines ≡ (notFound, lines)
   -- nothing to the zero: its push
-  pub push-zero : plannedFor (ask 16 17 21 [] (32 ∷ [])) desk lines ≡ (builders 1 2 1 2, 800 ∷ replicate 127 9999)
+  pub push-zero : plannedFor (ask 16 17 21 [] (32 ∷ [])) desk lines ≡ (builders 1 2 1 2 1, 800 ∷ replicate 127 9999)
   -- nothing to nothing, without reach: no steps
-  pub both-empty : plannedFor (ask 16 0 21 [] []) desk lines ≡ (atGoal, lines)
+  pub both-empty : plannedFor (ask 16 0 21 [] []) desk lines ≡ (atGoal 0, lines)
   -- a key where there is no reach: too long
   pub no-reach : plannedFor (ask 16 0 21 (0 ∷ []) []) desk lines ≡ (refused 6, lines)
   -- a window of 22 keys is too tall
@@ -99,10 +100,10 @@ pub record Starred : Type 0 where
   -- a key too great for packing
   pub packing-64 : packing 6 21 (64 ∷ []) ≡ record { refusal = 5; lo = 0; hi = 0 }
   -- a Pop that replay does not allow
-  pub pop-on-empty : replayed (rules 16 17 21 kinds) [] (0 ∷ []) sheet ≡ (record { refusal = 8; index = 0; length = 0 }, sheet)
+  pub pop-on-empty : replayed (rules 16 17 21 kinds) [] (0 ∷ []) sheet ≡ (record { refusal = 8; index = 0; length = 0; highest = 0 }, sheet)
 
 pub starred : Starred
-unfolding packing packRefusal replayOutcome replayRefusal reachFault kindsFault pricesFault ranOn allows after room immediate value decoded plus noMore pick trailLoop trail lastOf circuits misplaced starSwaps unroutable builderRefusal starSwapped does routed firstAt dropAt within trimmed made copied added addedTimes filled finished dupAndStar bury pops uncovered deleteTail begins notTail deleted tailPlan sameFrom commonSuffix withPops withKeys flushCost inHand planOf searched planned begin allowanceFault overLength shortLists planRefusal answered plannedFor
+unfolding packing packRefusal replayOutcome replayRefusal reachFault kindsFault pricesFault ranOn passes highest allows after room immediate value decoded plus noMore pick trailLoop trail lastOf circuits misplaced starSwaps unroutable builderRefusal starSwapped does routed firstAt dropAt within trimmed made copied added addedTimes filled finished dupAndStar bury pops uncovered deleteTail begins notTail deleted tailPlan sameFrom commonSuffix withPops withKeys flushCost inHand planOf searched planned begin allowanceFault overLength shortLists planRefusal answered plannedFor
 starred =
     record {
       two-pops = refl;

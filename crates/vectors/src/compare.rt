@@ -12,11 +12,12 @@ ghost use Prim.Native.Nat.{_≤_, _/_};
 ghost use lib.ListN.{length};
 ghost use Rattle.vectors.specs.File.{wantedStep, wantedKey, AsFields, AsSteps, AsWindow};
 
-// Whether the refusal and every field that the record has are answered. More fields than are known are refused.
-pub fn same_fields(answers: &[u8], got: &[usize; 10]) -> bool
+// Whether the refusal and every field that the record has are answered. More fields than the call has are refused.
+pub fn same_fields(answers: &[u8], got: &[usize]) -> bool
+    requires { ⌜ length (now got) ≤ 64 ⌝ }
     ensures { λ r. ⌜ (r ≡ true → AsFields (now (answers .entry)) (now (got .entry))) ⌝ }
 {
-    if 40 < answers.len() {
+    if 4 * got.len() < answers.len() {
         return false;
     }
     let mut i: usize = 0;
@@ -85,7 +86,7 @@ pub fn same_result(window: &[u8], result: &[u8]) -> bool
 
 pub fn same_answer(answers: &[u8], a: Answer) -> bool
     ensures { λ r. ⌜ (r ≡ true → AsFields (now (answers .entry))
-        (a .refusal ∷ a .found ∷ a .«step_count» ∷ a .«plan_gas» ∷ a .«plan_bytes» ∷ a .«ceiling_gas» ∷ a .«ceiling_bytes» ∷ a .origin ∷ a .ending ∷ a .expansions ∷ [])) ⌝ }
+        (a .refusal ∷ a .found ∷ a .«step_count» ∷ a .«plan_gas» ∷ a .«plan_bytes» ∷ a .«ceiling_gas» ∷ a .«ceiling_bytes» ∷ a .origin ∷ a .ending ∷ a .expansions ∷ a .highest ∷ [])) ⌝ }
 {
     same_fields(
         answers,
@@ -100,14 +101,15 @@ pub fn same_answer(answers: &[u8], a: Answer) -> bool
             a.origin as usize,
             a.ending as usize,
             a.expansions,
+            a.highest,
         ],
     )
 }
 
 // A builder answers a refusal and a step count.
 pub fn same_count(answers: &[u8], refusal: u32, n: usize) -> bool
-    ensures { λ r. ⌜ (r ≡ true → AsFields (now (answers .entry)) (refusal ∷ n ∷ 0 ∷ 0 ∷ 0 ∷ 0 ∷ 0 ∷ 0 ∷ 0 ∷ 0 ∷ [])) ⌝ }
+    ensures { λ r. ⌜ (r ≡ true → AsFields (now (answers .entry)) (refusal ∷ n ∷ [])) ⌝ }
 {
-    let got = [refusal as usize, n, 0, 0, 0, 0, 0, 0, 0, 0];
+    let got = [refusal as usize, n];
     same_fields(answers, &got)
 }

@@ -117,7 +117,7 @@ fn replay_as(rec: &[u8], kinds: &[u8], steps: &[u16], result: &mut [u8]) -> bool
         kinds,
         result,
     );
-    let got = [r.refusal as usize, r.index, r.length, 0, 0, 0, 0, 0, 0, 0];
+    let got = [r.refusal as usize, r.index, r.length, r.highest];
     if same_fields(field(rec, file::ANSWER), &got) {
         return same_result(field(rec, file::WINDOW), result);
     }
@@ -150,18 +150,7 @@ fn check_mark(rec: &[u8], kinds: &[u8], prices: &[u32], steps: &[u16]) -> bool {
         number(ceiling, 0),
         number(ceiling, 4),
     );
-    let got = [
-        r.refusal as usize,
-        r.index,
-        r.mark as usize,
-        0,
-        0,
-        0,
-        0,
-        0,
-        0,
-        0,
-    ];
+    let got = [r.refusal as usize, r.index, r.mark as usize, r.highest];
     same_fields(field(rec, file::ANSWER), &got)
 }
 
@@ -175,11 +164,6 @@ fn check_pack(rec: &[u8]) -> bool {
         low / 4294967296,
         high % 4294967296,
         high / 4294967296,
-        0,
-        0,
-        0,
-        0,
-        0,
     ];
     same_fields(field(rec, file::ANSWER), &got)
 }

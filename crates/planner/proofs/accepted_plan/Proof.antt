@@ -18,7 +18,7 @@ use Rattle.planner.specs.declared.Answer.{Answer}
 use Rattle.planner.specs.Refusal.{Asked, Lent, asked, allowances, lent}
 use Rattle.planner.specs.Planned.{answered, listed, planHeld, before, questionOf}
 use Rattle.planner.specs.Accepted.{Accepted, accepted, keys-below, start-window, goal-window}
-use Rattle.planner.specs.Cases.{given, at-goal, no-expansion, by-search, held-is}
+use Rattle.planner.specs.Cases.{given, still, at-goal, no-expansion, by-search, held-is}
 use borrow.Author.Needs.{needs}
 use Rattle.planner.proofs.accepted_plan.Statement.{statement}
 use Rattle.planner.proofs.accepted_plan.Tie as tie
@@ -28,6 +28,10 @@ questionAt : tie.Start → Asked
 questionAt s =
     let a = s .args in
     asked (ruled (a .cfg) (a .kinds .now)) (a .prices .now) (a .start .now) (a .goal .now) (allowances (a .a .«max_expansions») (a .a .«states_without») (a .a .«states_with»))
+
+-- an answer given out over the step list
+abbrev givenAt : tie.Start → Answered Cost ℕ → Answer × List ℕ
+givenAt s t = given (ruled (s .args .cfg) (s .args .kinds .now)) (s .args .start .now) t (s .args .steps .now)
 
 lentAt : tie.Start → Lent
 lentAt s = let a = s .args in lent (length (a .steps .now)) (length (a .nodes .now)) (length (a .heads .now)) (length (a .list .now))
@@ -65,8 +69,8 @@ returns : tie.Need-returns
 unfolding questionAt
 returns c =
     let s = c .before .before .before .before .before .before .before .before .before .before .before in
-    ap (λ (t : Answer). (t, s .args .steps .now)) (c .no-steps .ensures)
-    ∙ ap (λ (t : Answered Cost ℕ). given t (s .args .steps .now)) (sym (at-goal (questionAt s) (sym (c .before .before .same-window .ensures) ∙ c .before .if1 .taken)))
+    ap (λ (t : Answer). (t, s .args .steps .now)) (c .no-steps .ensures ∙ still (ruled (s .args .cfg) (s .args .kinds .now)) (s .args .start .now))
+    ∙ ap (λ (t : Answered Cost ℕ). givenAt s t) (sym (at-goal (questionAt s) (sym (c .before .before .same-window .ensures) ∙ c .before .if1 .taken)))
 
 slice-aggregate-in-hand : tie.Need-slice-aggregate-in-hand
 slice-aggregate-in-hand c = search needs
@@ -85,7 +89,7 @@ give-held-requires : tie.Need-give-held-requires
 unfolding questionAt lentAt
 give-held-requires c κs =
     let s = c .before .before .before .before .before .before .before .before .before .before .before .before .before .before .before .before .before in
-    (c .before .before .before .before .before .in-hand .ensures .1, omega arith, omega (arith, okAt s .steps))
+    ((c .before .before .before .before .before .in-hand .ensures .1, omega arith, omega (arith, okAt s .steps)), (kinds-length (s .args .kinds .now) (okAt s .kinds), okAt s .window))
 
 same-length : tie.Need-same-length
 same-length c = search needs
@@ -96,8 +100,8 @@ returns-2 c =
     let s = c .before .before .before .before .before .before .before .before .before .before .before .before .before .before .before .before .before .before .before .before in
     let i = c .before .before .before .before .before .before .before .before in
     c .before .before .give-held .ensures
-    ∙ ap (λ (h : Held). given (record { plan = planHeld h; ending = 1; expansions = 0 }) (s .args .steps .now)) (builders i)
-    ∙ ap (λ (t : Answered Cost ℕ). given t (s .args .steps .now)) (sym (no-expansion (questionAt s) (differs i) (c .before .before .before .before .before .if2 .taken)))
+    ∙ ap (λ (h : Held). givenAt s (record { plan = planHeld h; ending = 1; expansions = 0 })) (builders i)
+    ∙ ap (λ (t : Answered Cost ℕ). givenAt s t) (sym (no-expansion (questionAt s) (differs i) (c .before .before .before .before .before .if2 .taken)))
 
 slice-aggregate-with-search : tie.Need-slice-aggregate-with-search
 slice-aggregate-with-search c = search needs
@@ -127,8 +131,8 @@ returns-3 c =
     let s = b29 in
     let i = b17 in
     at-with-search .with-search .ensures
-    ∙ ap (λ (h : Held). given (searched gas-bytes (problemOf (questionOf (questionAt s)) (s .args .start .now)) (listed (s .args .prices .now)) 50 (h .bound) (planHeld h) (questionAt s .allowance)) (s .args .steps .now)) (builders i)
-    ∙ ap (λ (t : Answered Cost ℕ). given t (s .args .steps .now)) (sym (by-search (questionAt s) (differs i) (at-if2 .if2 .left)))
+    ∙ ap (λ (h : Held). givenAt s (searched gas-bytes (problemOf (questionOf (questionAt s)) (s .args .start .now)) (listed (s .args .prices .now)) 50 (h .bound) (planHeld h) (questionAt s .allowance))) (builders i)
+    ∙ ap (λ (t : Answered Cost ℕ). givenAt s t) (sym (by-search (questionAt s) (differs i) (at-if2 .if2 .left)))
 
 pub accepted-plan-spec : {M : Type 1} → statement M
 accepted-plan-spec =

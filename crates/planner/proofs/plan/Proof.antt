@@ -60,7 +60,7 @@ returns-2 c =
     let b23 = at-refusal .before .before .before .before .before .before .before .before .before in
     let s = b23 in
     let p = at-accepted-plan .accepted-plan in
-    let z = given-accepted (answered (questionAt s)) (p .result) (s .args .steps .now) (p .last .1 .1 .1 .0) (p .ensures) in (
+    let z = given-accepted (questionAt s .rules) (questionAt s .start) (answered (questionAt s)) (p .result) (s .args .steps .now) (p .last .1 .1 .1 .0) (p .ensures) in (
       p .ensures ∙ sym (when-accepted (questionAt s) (lentAt s) (s .args .steps .now) (sym (at-refusal .refusal .ensures) ∙ at-if1 .if1 .left)),
       (
         work-free _ (s .args .nodes .now) (p .last .0) z (same-length-2 c),

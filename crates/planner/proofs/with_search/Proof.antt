@@ -6,8 +6,9 @@ use mathlib.Core.Option.{Option}
 use mathlib.Core.List.{List}
 use mathlib.Core.Path.{_≡_, refl, ap, sym, _∙_}
 use native.Mathlib.Omega.{arith}
-use lib.ListN.{length}
-use Rattle.replay.specs.Machine.{ruled}
+use lib.ListN.{length, take}
+use lib.Seq.{length-take-le}
+use Rattle.replay.specs.Machine.{ruled, highest}
 use Rattle.algebra.specs.GasBytes.{gas-bytes}
 use Rattle.astar.specs.Planner.{Answer as Answered, Found, given as isGiven, searched}
 use Rattle.successors.specs.Whole.{asked as sought}
@@ -17,6 +18,7 @@ use Rattle.run.specs.declared.Limits.{Limits}
 use Rattle.incumbent.specs.Hand.{heldOf}
 use Rattle.planner.specs.Planned.{listed, planHeld}
 use Rattle.costs.specs.declared.Cost.{Cost}
+use Rattle.costs.specs.Laws.{kinds-length}
 use Rattle.planner.specs.declared.Answer.{Answer}
 use Rattle.planner.specs.Refusal.{Asked, Lent, asked, allowances, lent}
 use Rattle.planner.specs.Accepted.{Accepted, accepted, search-question, search-start, search-room}
@@ -74,6 +76,10 @@ heldIs : (s : tie.Start) → isGiven (heldAt s) ≡ haveAt s
 unfolding heldAt haveAt
 heldIs s = held-given (s .args .hand) (s .args .held .now) (haveAt s) refl
 
+-- an answer given out over the step list
+abbrev givenAt : tie.Start → Answered Cost ℕ → Answer × List ℕ
+givenAt s t = given (ruled (s .args .cfg) (s .args .kinds .now)) (s .args .start .now) t (s .args .steps .now)
+
 abbrev stepsAfter : tie.After-search-from → List ℕ
 stepsAfter c = c .search-from .last .1 .1 .1 .0
 
@@ -81,8 +87,12 @@ module _ (c : tie.After-search-from) where
   abbrev s₀ : tie.Start
   s₀ = c .before .before .before .before .before .before .before .before .before .before .before .before .before .before .before
 
-  has-plan : c .search-from .result .found ≡ true → (foundBySearch (c .search-from .result), stepsAfter c) ≡ given (foundAt s₀) (s₀ .args .steps .now)
-  unfolding foundAt limitsAt heldAt haveAt
+  -- the highest window of the search's plan
+  climbed : ℕ
+  climbed = highest (ruled (s₀ .args .cfg) (s₀ .args .kinds .now)) (take (c .search-from .result .steps) (stepsAfter c)) (s₀ .args .start .now)
+
+  has-plan : c .search-from .result .found ≡ true → (foundBySearch (c .search-from .result) climbed, stepsAfter c) ≡ givenAt s₀ (foundAt s₀)
+  unfolding foundAt limitsAt heldAt haveAt climbed
   has-plan e =
       searched-found (sought (s₀ .args .cfg) (s₀ .args .kinds .now) (s₀ .args .prices .now) (s₀ .args .goal .now)) (s₀ .args .start .now) (limitsAt s₀) (s₀ .args .hand .bound) (haveAt s₀) (c .search-from .result) (s₀ .args .steps .now) (stepsAfter c) (c .search-from .ensures) (heldAt s₀) (heldIs s₀) e
 
@@ -95,6 +105,18 @@ module _ (c : tie.After-search-from) where
   unfolding foundAt limitsAt heldAt haveAt
   unwritten e =
       nothing-written (sought (s₀ .args .cfg) (s₀ .args .kinds .now) (s₀ .args .prices .now) (s₀ .args .goal .now)) (s₀ .args .start .now) (limitsAt s₀) (s₀ .args .hand .bound) (haveAt s₀) (c .search-from .result) (s₀ .args .steps .now) (stepsAfter c) (c .search-from .ensures) (heldAt s₀) (heldIs s₀) e
+
+slice-reshare-prefix-highest : tie.Need-slice-reshare-prefix-highest
+slice-reshare-prefix-highest c = search needs
+
+slice-aggregate-highest : tie.Need-slice-aggregate-highest
+slice-aggregate-highest c =
+    let i = c .before .before .before .before .before .before .before .before .before .before in
+    sym (length-take-le (i .search-from .result .steps) (stepsAfter i) (i .search-from .ensures .fits))
+
+highest-requires : tie.Need-highest-requires
+unfolding lentAt questionAt
+highest-requires c κs = let ok = okAt (s₀ (c .before .before .before .before .before .before .before .before .before .before)) in (kinds-length _ (ok .kinds), ok .window)
 
 search-plan-requires : tie.Need-search-plan-requires
 search-plan-requires c κs = search needs
@@ -112,8 +134,11 @@ same-length-4 : tie.Need-same-length-4
 same-length-4 c = search needs
 
 returns : tie.Need-returns
-unfolding foundAt limitsAt heldAt
-returns c = ap (λ (t : Answer). (t, stepsAfter (c .before .before .before .before .before .before .before .before .before .before))) (c .search-plan .ensures) ∙ has-plan (c .before .before .before .before .before .before .before .before .before .before) (c .before .if1 .taken)
+unfolding foundAt limitsAt heldAt climbed
+returns c =
+    let i = c .before .before .before .before .before .before .before .before .before .before .before .before in
+    ap (λ (t : Answer). (t, stepsAfter i)) (c .search-plan .ensures ∙ ap (foundBySearch (i .search-from .result)) (c .before .highest .ensures))
+    ∙ has-plan i (c .before .before .before .if1 .taken)
 
 give-held-requires : tie.Need-give-held-requires
 unfolding lentAt questionAt
@@ -123,7 +148,7 @@ give-held-requires c κs =
     let b25 = b10 .before .before .before .before .before .before .before .before .before .before .before .before .before .before .before in
     let s = b25 in
     let k = ap length (unwritten (b10) (at-if1 .if1 .left)) in
-    (s .pre .1 .0, s .pre .1 .1, omega (arith, k, okAt s .steps))
+    ((s .pre .1 .0, s .pre .1 .1, omega (arith, k, okAt s .steps)), (kinds-length (s .args .kinds .now) (okAt s .kinds), okAt s .window))
 
 same-length-5 : tie.Need-same-length-5
 same-length-5 c = search needs
@@ -147,14 +172,17 @@ returns-2 c =
     let s = b28 in
     let n = at-if1 .if1 .left in
     at-give-held .give-held .ensures
-    ∙ ap (λ (z : List ℕ). given (record { plan = heldAt s; ending = b13 .search-from .result .ending; expansions = b13 .search-from .result .expansions }) z) (unwritten (b13) n)
-    ∙ ap (λ (t : Answered Cost ℕ). given t (s .args .steps .now)) (sym (has-none (b13) n))
+    ∙ ap (λ (z : List ℕ). given (ruled (s .args .cfg) (s .args .kinds .now)) (s .args .start .now) (record { plan = heldAt s; ending = b13 .search-from .result .ending; expansions = b13 .search-from .result .expansions }) z) (unwritten (b13) n)
+    ∙ ap (λ (t : Answered Cost ℕ). givenAt s t) (sym (has-none (b13) n))
 
 pub with-search-spec : {M : Type 1} → statement M
 with-search-spec =
     tie.close
     (tie.spec
     search-from-requires
+    slice-reshare-prefix-highest
+    slice-aggregate-highest
+    highest-requires
     search-plan-requires
     same-length
     same-length-2

@@ -10,16 +10,19 @@ use Rattle.vectors.proofs.compare.same_fields.Statement.{statement}
 use Rattle.vectors.proofs.compare.same_fields.Tie as tie
 
 abbrev Inv-loop : tie.InvT-loop
-Inv-loop answers got i₀ i = (length answers ≤ 40) × (i ≤ 10) × ((k : ℕ) → k < i → getD got k 0 ≡ numberAt answers (4 * k))
+Inv-loop answers got i₀ i = (length answers ≤ 4 * length got) × (length got ≤ 64) × (i ≤ length got) × ((k : ℕ) → k < i → getD got k 0 ≡ numberAt answers (4 * k))
 
 abbrev μ-loop : tie.MeasureT-loop
-μ-loop answers got i₀ i = 10 - i
+μ-loop answers got i₀ i = length got - i
+
+mul-if1 : tie.Need-mul-if1 Inv-loop μ-loop
+mul-if1 c = search needs
 
 returns : tie.Need-returns Inv-loop μ-loop
 returns c = λ e k h. cc
 
 loop-holds : tie.Need-loop-holds Inv-loop μ-loop
-loop-holds c = (omega arith, search needs, λ k h. omega arith)
+loop-holds c = (omega arith, search needs, omega arith, λ k h. omega arith)
 
 mul-loop : tie.Need-mul-loop Inv-loop μ-loop
 mul-loop c = search needs
@@ -27,8 +30,8 @@ mul-loop c = search needs
 mul-if2 : tie.Need-mul-if2 Inv-loop μ-loop
 mul-if2 c = search needs
 
-element-copy-out-if2 : tie.Need-element-copy-out-if2 Inv-loop μ-loop
-element-copy-out-if2 c = search needs
+shared-slice-read-if2 : tie.Need-shared-slice-read-if2 Inv-loop μ-loop
+shared-slice-read-if2 c = search needs
 
 mul-count : tie.Need-mul-count Inv-loop μ-loop
 mul-count c = search needs
@@ -48,10 +51,10 @@ loop-less c = search needs
 loop-again : tie.Need-loop-again Inv-loop μ-loop
 loop-again c =
     let l = c .before .before .before .before .loop in
-    (l .inv .0, omega arith, below-more _ _ (l .inv .2) (c .if2 .left ∙ c .before .count .ensures .0))
+    (l .inv .0, l .inv .1, omega arith, below-more _ _ (l .inv .3) (c .if2 .left ∙ c .before .count .ensures .0))
 
 returns-3 : tie.Need-returns-3 Inv-loop μ-loop
-returns-3 c = λ e k h. c .before .loop .inv .2 k (omega arith)
+returns-3 c = λ e k h. c .before .loop .inv .3 k (omega arith)
 
 pub same-fields-spec : {M : Type 1} → statement M
 same-fields-spec =
@@ -59,11 +62,12 @@ same-fields-spec =
     (tie.spec
     Inv-loop
     μ-loop
+    mul-if1
     returns
     loop-holds
     mul-loop
     mul-if2
-    element-copy-out-if2
+    shared-slice-read-if2
     mul-count
     count-requires
     returns-2
