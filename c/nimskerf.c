@@ -115,12 +115,14 @@ NimskerfAnswer nimskerf_plan(const NimskerfQuestion *question, const NimskerfLis
 NimskerfReplayed nimskerf_replay(
     const NimskerfQuestion *question,
     const uint16_t *steps, size_t steps_len,
-    uint8_t *result, size_t result_len)
+    uint8_t *result, size_t result_len,
+    uint8_t *popped, size_t popped_len)
 {
-    enum { RESULT, WRITTEN, START = WRITTEN, STEPS, KINDS, COUNT };
+    enum { RESULT, POPPED, WRITTEN, START = WRITTEN, STEPS, KINDS, COUNT };
     const NimskerfQuestion *q = asked(question);
     List l[COUNT] = {
         [RESULT] = present_or_empty(result, result_len, 1),
+        [POPPED] = present_or_empty(popped, popped_len, 1),
         [START] = present_keys(q->start, q->start_len),
         [STEPS] = present_steps(steps, steps_len),
         [KINDS] = present_or_empty(q->kinds, q->kinds_len, 1),
@@ -129,6 +131,39 @@ NimskerfReplayed nimskerf_replay(
     return nimskerf_proved_replay(
         l[START].at, l[START].len,
         l[STEPS].at, l[STEPS].len,
+        q->dup_max, q->swap_max, q->max_len,
+        l[KINDS].at, l[KINDS].len,
+        l[RESULT].at, l[RESULT].len,
+        l[POPPED].at, l[POPPED].len);
+}
+
+size_t nimskerf_pops(const uint16_t *steps, size_t steps_len)
+{
+    List answer = present_or_empty(steps, steps_len, 2);
+    return nimskerf_proved_pops(answer.at, answer.len);
+}
+
+NimskerfRewound nimskerf_rewind(
+    const NimskerfQuestion *question,
+    const uint8_t *end, size_t end_len,
+    const uint16_t *steps, size_t steps_len,
+    const uint8_t *popped, size_t popped_len,
+    uint8_t *result, size_t result_len)
+{
+    enum { RESULT, WRITTEN, END = WRITTEN, STEPS, POPPED, KINDS, COUNT };
+    const NimskerfQuestion *q = asked(question);
+    List l[COUNT] = {
+        [RESULT] = present_or_empty(result, result_len, 1),
+        [END] = present_keys(end, end_len),
+        [STEPS] = present_steps(steps, steps_len),
+        [POPPED] = present_keys(popped, popped_len),
+        [KINDS] = present_or_empty(q->kinds, q->kinds_len, 1),
+    };
+    part(l, WRITTEN, COUNT);
+    return nimskerf_proved_rewind(
+        l[END].at, l[END].len,
+        l[STEPS].at, l[STEPS].len,
+        l[POPPED].at, l[POPPED].len,
         q->dup_max, q->swap_max, q->max_len,
         l[KINDS].at, l[KINDS].len,
         l[RESULT].at, l[RESULT].len);

@@ -81,6 +81,7 @@ const char *nimskerf_refusal_text(uint32_t refusal)
         "A step is not allowed.",
         "No Swaps within reach turn start into goal.",
         "Goal is not a strictly shorter prefix of start, or start is longer than swap_max.",
+        "No start leads through the steps to the end with these keys popped.",
         "No refusal has this number."};
     return TEXT_OF(TEXTS, refusal);
 }

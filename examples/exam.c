@@ -1,18 +1,25 @@
-/* Asks a question, plans, and marks a right, a dear, a wrong and a forbidden answer.
+/* Asks a question, plans, marks a right, a dear, a wrong and a forbidden answer, and walks back through one of them.
  *
  *     cc exam.c $(pkg-config --cflags --libs nimskerf) -o exam
  */
 #include <nimskerf.h>
 
 #include <stdio.h>
+#include <string.h>
+
+static void print_step(uint16_t step)
+{
+    printf(" %s", nimskerf_step_word(step));
+    if (nimskerf_step_kind(step) != NIMSKERF_STEP_POP)
+        printf(" %u", (unsigned)nimskerf_step_operand(step));
+}
 
 static void print_steps(const char *whose, const uint16_t *steps, size_t count)
 {
     printf("%s:", whose);
     for (size_t i = 0; i < count; i++) {
-        printf("%s %s", i == 0 ? "" : ",", nimskerf_step_word(steps[i]));
-        if (nimskerf_step_kind(steps[i]) != NIMSKERF_STEP_POP)
-            printf(" %u", (unsigned)nimskerf_step_operand(steps[i]));
+        printf("%s", i == 0 ? "" : ",");
+        print_step(steps[i]);
     }
     printf("\n");
 }
@@ -32,6 +39,40 @@ static void mark(const NimskerfQuestion *question, NimskerfCost pass_mark, const
     }
     printf("  %s\n", nimskerf_mark_text(marked.mark));
     print_highest(marked.highest);
+}
+
+static void print_window(const uint8_t *window, size_t length)
+{
+    printf(":");
+    for (size_t i = 0; i < length; i++)
+        printf(" %u", (unsigned)window[i]);
+    printf("\n");
+}
+
+/* Replays an answer of at most 8 steps, then takes back a step at a time. */
+static void walk_back(const NimskerfQuestion *question, const uint16_t *answer, size_t count)
+{
+    uint8_t after[NIMSKERF_RESULT_LEN], before[NIMSKERF_RESULT_LEN], popped[8];
+    NimskerfReplayed replayed = nimskerf_replay(
+        question, answer, count, after, sizeof after, popped, sizeof popped);
+    print_steps("Back through an answer", answer, count);
+    if (replayed.refusal != NIMSKERF_REFUSAL_NONE) {
+        printf("  %s\n", nimskerf_refusal_text(replayed.refusal));
+        return;
+    }
+    size_t length = replayed.length;
+    printf("  at the end");
+    print_window(after, length);
+    for (size_t left = count; left > 0; left--) {
+        const uint16_t *step = &answer[left - 1];
+        const uint8_t *key = &popped[nimskerf_pops(answer, left - 1)];
+        length = nimskerf_rewind(
+            question, after, length, step, 1, key, nimskerf_pops(step, 1), before, sizeof before).length;
+        printf("  before");
+        print_step(*step);
+        print_window(before, length);
+        memcpy(after, before, length);
+    }
 }
 
 int main(void)
@@ -69,5 +110,6 @@ int main(void)
     mark(&question, answer.ceiling, LIST(dear));
     mark(&question, answer.ceiling, LIST(wrong));
     mark(&question, answer.ceiling, LIST(not_allowed));
+    walk_back(&question, LIST(dear));
     return 0;
 }

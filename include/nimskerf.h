@@ -1,4 +1,4 @@
-/* Nimskerf: plans, replays and marks stack windows.
+/* Nimskerf: plans, replays (forward and back) and marks stack windows.
  *
  * A window is a list of keys, top first, each a byte 0 to 63. A step is a 16-bit code, kind times 256 plus operand. A
  * question is a NimskerfQuestion: begin with nimskerf_question() and set what differs. Fields to come are set there to
@@ -7,9 +7,11 @@
  * A list is a pointer to its first entry and the number of its entries. Any numbers and lists get an answer or a
  * refusal:
  * - NULL with length 0 is an empty list.
- * - NULL with another length, or a pointer that is not aligned for its entries, is refused in its turn: keys as 5,
- *   kinds and prices as 4, steps to be read as 8 at index 0, lists to be written as 7.
+ * - NULL with another length, or a pointer that is not aligned for its entries, is refused in its turn: keys as 5, also
+ *   those of an end and popped keys to be read; kinds and prices as 4; steps to be read as 8 at index 0, by stepping
+ *   back as 11. A list to be written counts as empty: 7 in its turn.
  * - A list that a call writes and that shares memory with another list of the same call counts as empty: 7 in its turn.
+ * - An empty list is too short for all that calls write but the popped keys of no steps.
  * - A NULL question has no tables and no windows: 4, from the builders 5. NULL for the lists of a planning: 7.
  * What stays with the caller is that a pointer other than NULL points to as many entries as its length says, and that
  * nobody else writes to them during the call.
@@ -27,14 +29,14 @@
 extern "C" {
 #endif
 
-#define NIMSKERF_VERSION "0.2.0"
+#define NIMSKERF_VERSION "0.3.0"
 
 /* Limits of a question. */
 #define NIMSKERF_DUP_MAX 16          /* The greatest dup_max. */
 #define NIMSKERF_SWAP_MAX 17         /* The greatest swap_max. */
 #define NIMSKERF_MAX_LEN 21          /* The greatest max_len. */
 #define NIMSKERF_MAX_ALLOWANCE 65536 /* The greatest allowance. */
-#define NIMSKERF_MAX_STEPS 65536     /* The most steps of a replay or marking. */
+#define NIMSKERF_MAX_STEPS 65536     /* The most steps of a replay, stepping back or marking. */
 #define NIMSKERF_MAX_PRICE 30000     /* The greatest price. */
 #define NIMSKERF_KEYS 64             /* Keys are 0 to 63. */
 #define NIMSKERF_KINDS_LEN 64        /* The length of kinds. */
@@ -44,8 +46,8 @@ extern "C" {
 #define NIMSKERF_DEFAULT_EXPANSIONS 1000
 #define NIMSKERF_DEFAULT_STATES 1000
 
-/* Lengths of lists that calls write. A longer list costs no time. */
-#define NIMSKERF_RESULT_LEN 21     /* Replay's result. */
+/* Lengths of lists that calls write. A longer list costs no time. Replay's popped list is as long as its steps. */
+#define NIMSKERF_RESULT_LEN 21     /* The result of replay and of stepping back. */
 #define NIMSKERF_MIN_STEPS_LEN 128 /* A builder's steps. */
 /* A planning's lists, by max_expansions and by the larger state allowance. */
 #define NIMSKERF_STEPS_LEN(expansions) ((expansions) > NIMSKERF_MIN_STEPS_LEN ? (expansions) : NIMSKERF_MIN_STEPS_LEN)
@@ -78,24 +80,29 @@ enum {
 /* Refusals. The lowest number that applies is given. Beside a number every other field is zero (but the index at 8),
  * and no list has changed. */
 enum {
-    NIMSKERF_REFUSAL_NONE = 0,       /* No number refuses the call. */
-    NIMSKERF_REFUSAL_REACH = 1,      /* dup_max is over 16 or swap_max is over 17. */
-    NIMSKERF_REFUSAL_WINDOW = 2,     /* max_len is over 21. */
-    NIMSKERF_REFUSAL_ALLOWANCE = 3,  /* An allowance is over 65,536, or a replay or marking has more than 65,536
-                                        steps. */
-    NIMSKERF_REFUSAL_TABLE = 4,      /* kinds are not 64 bytes, a kind is over 2, there is a second kind 2, prices are
-                                        not 196 numbers, or a price is over 30,000. */
-    NIMSKERF_REFUSAL_KEY = 5,        /* A start or goal key is 64 or more. */
-    NIMSKERF_REFUSAL_LENGTH = 6,     /* Planner: start or goal is longer than swap_max or max_len. Replay and marking:
-                                        longer than max_len. Packing, star-swap and delete-tail: longer than 21. */
-    NIMSKERF_REFUSAL_SHORT = 7,      /* Planner: a work list has fewer entries than the larger state allowance plus 50,
-                                        or the step list is below the larger of 128 and max_expansions. Builders: the
-                                        step list is below 128. Replay: the result list is below 21. */
-    NIMSKERF_REFUSAL_STEP = 8,       /* Replay and marking: a step is not allowed; its index is returned too. */
-    NIMSKERF_REFUSAL_UNROUTABLE = 9, /* Star-swap: unequal lengths or key counts, or a misplaced position at swap_max
-                                        or deeper. */
-    NIMSKERF_REFUSAL_NOT_A_TAIL = 10 /* Delete-tail: goal is not a strictly shorter prefix of start, or start is longer
-                                        than swap_max. */
+    NIMSKERF_REFUSAL_NONE = 0,        /* No number refuses the call. */
+    NIMSKERF_REFUSAL_REACH = 1,       /* dup_max is over 16 or swap_max is over 17. */
+    NIMSKERF_REFUSAL_WINDOW = 2,      /* max_len is over 21. */
+    NIMSKERF_REFUSAL_ALLOWANCE = 3,   /* An allowance is over 65,536, or a replay, stepping back or marking has more
+                                         than 65,536 steps. */
+    NIMSKERF_REFUSAL_TABLE = 4,       /* kinds are not 64 bytes, a kind is over 2, there is a second kind 2, prices are
+                                         not 196 numbers, or a price is over 30,000. */
+    NIMSKERF_REFUSAL_KEY = 5,         /* A start or goal key is 64 or more. Stepping back: an end key or any of the
+                                         popped keys is. */
+    NIMSKERF_REFUSAL_LENGTH = 6,      /* Planner: start or goal is longer than swap_max or max_len. Replay, marking and
+                                         stepping back (its end): longer than max_len. Packing, star-swap and
+                                         delete-tail: longer than 21. */
+    NIMSKERF_REFUSAL_SHORT = 7,       /* Planner: a work list has fewer entries than the larger state allowance plus 50,
+                                         or the step list is below the larger of 128 and max_expansions. Builders: the
+                                         step list is below 128. Replay and stepping back: the result list is below 21.
+                                         Replay: the popped list is shorter than the steps. */
+    NIMSKERF_REFUSAL_STEP = 8,        /* Replay and marking: a step is not allowed; its index is returned too. */
+    NIMSKERF_REFUSAL_UNROUTABLE = 9,  /* Star-swap: unequal lengths or key counts, or a misplaced position at swap_max
+                                         or deeper. */
+    NIMSKERF_REFUSAL_NOT_A_TAIL = 10, /* Delete-tail: goal is not a strictly shorter prefix of start, or start is longer
+                                         than swap_max. */
+    NIMSKERF_REFUSAL_NO_START = 11    /* Stepping back: no start that replay accepts leads through the steps to the end
+                                         with exactly these keys popped. */
 };
 
 /* Where a plan comes from. */
@@ -183,6 +190,12 @@ typedef struct {
     size_t highest;   /* The greatest length that the window reached, the start included. */
 } NimskerfReplayed;
 
+/* Stepping back's answer. */
+typedef struct {
+    uint32_t refusal; /* NIMSKERF_REFUSAL_... */
+    size_t length;    /* The length of the start, the first entries of the result list. */
+} NimskerfRewound;
+
 /* Marking's answer. */
 typedef struct {
     uint32_t refusal; /* NIMSKERF_REFUSAL_... */
@@ -211,11 +224,26 @@ NimskerfQuestion nimskerf_question(void);
 /* Plans from start to goal. */
 NimskerfAnswer nimskerf_plan(const NimskerfQuestion *question, const NimskerfLists *lists);
 
-/* Replays steps from start and writes the end window, top first, over the first places of result; the rest is
+/* Replays steps from start. Writes the end window, top first, over the first places of result, and the keys that were
+ * popped, the first popped first, over the first nimskerf_pops(steps, steps_len) places of popped; the rest of both is
  * untouched. Takes start, dup_max, swap_max, max_len and kinds. */
 NimskerfReplayed nimskerf_replay(
     const NimskerfQuestion *question,
     const uint16_t *steps, size_t steps_len,
+    uint8_t *result, size_t result_len,
+    uint8_t *popped, size_t popped_len);
+
+/* How many entries of the popped list a replay of these steps writes: how many of the steps are Pops. */
+size_t nimskerf_pops(const uint16_t *steps, size_t steps_len);
+
+/* Steps back from end through steps. Writes the one start from which a replay of the steps ends there with exactly
+ * these keys popped, the first popped first, over the first places of result; the rest is untouched. Takes dup_max,
+ * swap_max, max_len and kinds. */
+NimskerfRewound nimskerf_rewind(
+    const NimskerfQuestion *question,
+    const uint8_t *end, size_t end_len,
+    const uint16_t *steps, size_t steps_len,
+    const uint8_t *popped, size_t popped_len,
     uint8_t *result, size_t result_len);
 
 /* Marks steps, whoever wrote them, against a ceiling. Takes all of the question but the allowances. */

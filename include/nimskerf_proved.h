@@ -30,6 +30,17 @@ NimskerfReplayed nimskerf_proved_replay(
     const uint16_t *steps, size_t steps_len,
     size_t dup_max, size_t swap_max, size_t max_len,
     const uint8_t *kinds, size_t kinds_len,
+    uint8_t *result, size_t result_len,
+    uint8_t *popped, size_t popped_len);
+
+size_t nimskerf_proved_pops(const uint16_t *steps, size_t steps_len);
+
+NimskerfRewound nimskerf_proved_rewind(
+    const uint8_t *end, size_t end_len,
+    const uint16_t *steps, size_t steps_len,
+    const uint8_t *popped, size_t popped_len,
+    size_t dup_max, size_t swap_max, size_t max_len,
+    const uint8_t *kinds, size_t kinds_len,
     uint8_t *result, size_t result_len);
 
 NimskerfMarked nimskerf_proved_mark(

@@ -1,6 +1,6 @@
 /* Calls every function of both headers with distinct values in every place and prints what comes back, a line each;
- * then the layout of every struct, then every constant. C and C++ must print tests/calls.txt, and so must Rust
- * (rust/tests/declarations.rs) up to the constants. */
+ * then the layout of every struct, then every constant, then the refusals that popped keys and stepping back brought. C
+ * and C++ must print tests/calls.txt, and so must Rust (rust/tests/declarations.rs) up to the constants. */
 #include "nimskerf.h"
 #include "nimskerf_proved.h"
 
@@ -13,7 +13,7 @@ enum { STATES = 471, ENTRIES = STATES + NIMSKERF_SPARE_ENTRIES, EXPANSIONS = 480
 /* Each list has room beyond its length, which no call may touch. */
 static uint16_t steps[ROOM];
 static uint64_t nodes[ROOM], heads[ROOM], open_list[ROOM];
-static uint8_t result[64], kinds[64];
+static uint8_t result[64], popped[64], kinds[64];
 static uint32_t prices[NIMSKERF_PRICES_LEN];
 
 static const uint8_t START[64] = {6, 6, 3, 0, 2, 6, 2};
@@ -29,6 +29,7 @@ static void fill(void)
     memset(heads, 0xab, sizeof heads);
     memset(open_list, 0xab, sizeof open_list);
     memset(result, 0xab, sizeof result);
+    memset(popped, 0xab, sizeof popped);
 }
 
 /* How many bytes at the end of a list are as `fill` left them. */
@@ -150,25 +151,72 @@ static void plans(void)
     plan("equal", &q);
 }
 
-static void print_replayed(const char *name, const char *through, NimskerfReplayed r)
+static void print_keys(const char *list, const uint8_t *keys, size_t count)
 {
-    printf("replay, %s, %s: refusal %" PRIu32 " index %zu length %zu highest %zu result", name, through, r.refusal,
-           r.index, r.length, r.highest);
-    for (size_t i = 0; i < r.length; i++)
-        printf(" %u", (unsigned)result[i]);
-    printf(" then %s\n", kept(result, 1, sizeof result, r.length) ? "untouched" : "TOUCHED");
+    printf(" %s", list);
+    for (size_t i = 0; i < count; i++)
+        printf(" %u", (unsigned)keys[i]);
+    printf(" then %s", kept(keys, 1, 64, count) ? "untouched" : "TOUCHED");
+}
+
+static void print_replayed(const char *name, const char *through, NimskerfReplayed r, size_t pops)
+{
+    printf("replay, %s, %s: refusal %" PRIu32 " index %zu length %zu highest %zu", name, through, r.refusal, r.index,
+           r.length, r.highest);
+    print_keys("result", result, r.length);
+    print_keys("popped", popped, r.refusal == 0 ? pops : 0);
+    printf("\n");
+}
+
+static void replay_into(
+    const char *name, const NimskerfQuestion *q, const uint16_t *codes, size_t count, size_t result_len,
+    size_t popped_len)
+{
+    fill();
+    NimskerfReplayed r = nimskerf_replay(q, codes, count, result, result_len, popped, popped_len);
+    print_replayed(name, "checked", r, nimskerf_pops(codes, count));
+    fill();
+    r = nimskerf_proved_replay(
+        q->start, q->start_len, codes, count, q->dup_max, q->swap_max, q->max_len, q->kinds, q->kinds_len, result,
+        result_len, popped, popped_len);
+    print_replayed(name, "proved", r, nimskerf_proved_pops(codes, count));
 }
 
 static void replay(const char *name, const NimskerfQuestion *q, const uint16_t *codes, size_t count)
 {
+    replay_into(name, q, codes, count, 21, count + 1);
+}
+
+/* What a stepping back takes beside the question, and the length of its result list. */
+typedef struct {
+    const uint8_t *end;
+    size_t end_len;
+    const uint16_t *codes;
+    size_t count;
+    const uint8_t *popped;
+    size_t popped_len;
+    size_t result_len;
+} Back;
+
+static void print_rewound(const char *name, const char *through, NimskerfRewound r)
+{
+    printf("rewind, %s, %s: refusal %" PRIu32 " length %zu", name, through, r.refusal, r.length);
+    print_keys("result", result, r.length);
+    printf("\n");
+}
+
+static void rewind_from(const char *name, const NimskerfQuestion *q, const Back *b)
+{
     fill();
-    print_replayed(name, "checked", nimskerf_replay(q, codes, count, result, 21));
+    print_rewound(
+        name, "checked",
+        nimskerf_rewind(q, b->end, b->end_len, b->codes, b->count, b->popped, b->popped_len, result, b->result_len));
     fill();
-    print_replayed(
+    print_rewound(
         name, "proved",
-        nimskerf_proved_replay(
-            q->start, q->start_len, codes, count, q->dup_max, q->swap_max, q->max_len, q->kinds, q->kinds_len, result,
-            21));
+        nimskerf_proved_rewind(
+            b->end, b->end_len, b->codes, b->count, b->popped, b->popped_len, q->dup_max, q->swap_max, q->max_len,
+            q->kinds, q->kinds_len, result, b->result_len));
 }
 
 static void print_marked(const char *name, const char *through, NimskerfMarked m)
@@ -210,6 +258,32 @@ static void replays_and_marks(void)
     q.max_len = 5;
     replay("narrow", &q, codes, 6);
     mark("narrow", &q, codes, 6, ceiling);
+}
+
+/* From 0 1 2 by swap 2, pop, dup 1, pop, pop, load 5 to 5 0. */
+static const uint16_t WALK[8] = {514, 0, 257, 0, 0, 1029, 800};
+static const uint8_t WALK_END[64] = {5, 0, 32}, WALK_POPPED[64] = {2, 0, 1, 3};
+
+static void steps_back(void)
+{
+    NimskerfQuestion q = question_of(FIRST, 3, GOAL, 3);
+    Back b = {WALK_END, 2, WALK, 6, WALK_POPPED, 3, 22};
+    replay("walk", &q, WALK, 6);
+    printf("pops: %zu %zu\n", nimskerf_pops(WALK, 4), nimskerf_proved_pops(WALK, 4));
+    /* Stepping back looks at neither window of the question. */
+    q.start = q.goal = NULL;
+    q.start_len = q.goal_len = 99;
+    rewind_from("walk", &q, &b);
+    b.popped_len = 4;
+    rewind_from("a key too many", &q, &b);
+    b.popped_len = 3;
+    q.dup_max = 1;
+    rewind_from("dup_max", &q, &b);
+    q.dup_max = 2;
+    q.swap_max = q.max_len = 3;
+    rewind_from("narrow", &q, &b);
+    b.result_len = 20;
+    rewind_from("short", &q, &b);
 }
 
 static void print_packed(const char *through, NimskerfPacked p)
@@ -272,7 +346,7 @@ static void codes_and_texts(void)
     for (unsigned code = 0; code <= 1280; code += 256)
         printf("step_word %u: %s\n", code, nimskerf_step_word((uint16_t)code));
     printf("step_word 1: %s\n", nimskerf_step_word(1));
-    for (uint32_t n = 0; n <= 11; n++)
+    for (uint32_t n = 0; n <= 12; n++)
         printf("refusal_text %" PRIu32 ": %s\n", n, nimskerf_refusal_text(n));
     for (uint32_t n = 0; n <= 4; n++)
         printf("origin_text %" PRIu32 ": %s\n", n, nimskerf_origin_text(n));
@@ -332,6 +406,9 @@ static void layouts(void)
     PLACE(NimskerfReplayed, index);
     PLACE(NimskerfReplayed, length);
     PLACE(NimskerfReplayed, highest);
+    SIZE(NimskerfRewound);
+    PLACE(NimskerfRewound, refusal);
+    PLACE(NimskerfRewound, length);
     SIZE(NimskerfMarked);
     PLACE(NimskerfMarked, refusal);
     PLACE(NimskerfMarked, index);
@@ -391,6 +468,7 @@ static void constants(void)
     CONSTANT(NIMSKERF_REFUSAL_STEP);
     CONSTANT(NIMSKERF_REFUSAL_UNROUTABLE);
     CONSTANT(NIMSKERF_REFUSAL_NOT_A_TAIL);
+    CONSTANT(NIMSKERF_REFUSAL_NO_START);
     CONSTANT(NIMSKERF_ORIGIN_NONE);
     CONSTANT(NIMSKERF_ORIGIN_DELETE_TAIL);
     CONSTANT(NIMSKERF_ORIGIN_DUP_AND_STAR);
@@ -406,6 +484,145 @@ static void constants(void)
     CONSTANT(NIMSKERF_MARK_TOO_DEAR);
 }
 
+/* Popped lists shorter than the steps, though as long as the Pops; neither list has changed. */
+static void short_lists(void)
+{
+    NimskerfQuestion q = question_of(FIRST, 3, GOAL, 3);
+    replay_into("as long", &q, WALK, 6, 21, 6);
+    replay_into("popped short", &q, WALK, 6, 21, 5);
+    replay_into("as long as the Pops", &q, WALK, 6, 21, 3);
+    replay_into("popped and result short", &q, WALK, 6, 20, 5);
+    replay_into("result short", &q, WALK, 6, 20, 6);
+    replay_into("no steps", &q, WALK, 0, 21, 0);
+    replay_into("no Pops, popped short", &q, WALK, 1, 21, 0);
+    replay_into("no Pops", &q, WALK, 1, 21, 1);
+    replay_into("popped short before a step", &q, WALK, 7, 21, 6);
+    q.max_len = 2;
+    replay_into("popped short after a length", &q, WALK, 6, 21, 5);
+    q.start_len = 2;
+    replay_into("allowed after two Pops", &q, WALK + 3, 4, 21, 4);
+    q.kinds = kinds;
+    replay_into("not allowed after two Pops", &q, WALK + 3, 4, 21, 4);
+}
+
+/* All refusals of a stepping back at once, then without the lowest each time. */
+static void refusals_back(void)
+{
+    static const uint16_t many[NIMSKERF_MAX_STEPS + 1] = {0};
+    static const uint8_t wrong[64] = {5, 0, 64}, wrong_popped[64] = {2, 0, 1, 64};
+    NimskerfQuestion q = question_of(FIRST, 3, GOAL, 3);
+    Back b = {wrong, 3, many, NIMSKERF_MAX_STEPS + 1, wrong_popped, 4, 20};
+    q.swap_max = 18;
+    q.max_len = 22;
+    q.kinds_len = 63;
+    rewind_from("all", &q, &b);
+    q.swap_max = 17;
+    rewind_from("all but 1", &q, &b);
+    q.max_len = 2;
+    rewind_from("all but 1, 2", &q, &b);
+    b.count--;
+    rewind_from("all but 1 to 3", &q, &b);
+    q.kinds_len = 64;
+    b.codes = WALK;
+    b.count = 6;
+    rewind_from("all but 1 to 4", &q, &b);
+    b.end = WALK_END;
+    rewind_from("a popped key past the Pops", &q, &b);
+    b.popped_len = 3;
+    rewind_from("all but 1 to 5", &q, &b);
+    b.end_len = 2;
+    rewind_from("all but 1 to 6", &q, &b);
+    b.result_len = 21;
+    rewind_from("11 alone", &q, &b);
+    q.max_len = 3;
+    rewind_from("none", &q, &b);
+}
+
+/* One step each, popped keys 2 0: every way in which there is no start, beside steps that have one. */
+static const struct {
+    const char *name;
+    uint16_t code;
+    uint8_t end_len, popped_len, end[4];
+} WAYS[] = {
+    {"pop", 0, 3, 1, {5, 6, 7}},
+    {"pop, full", 0, 4, 1, {5, 6, 7, 8}},
+    {"pop, no key", 0, 3, 0, {5, 6, 7}},
+    {"pop, two keys", 0, 3, 2, {5, 6, 7}},
+    {"pop with an operand", 1, 3, 1, {5, 6, 7}},
+    {"dup 1", 257, 3, 0, {6, 5, 6}},
+    {"dup 1, a key too many", 257, 3, 1, {6, 5, 6}},
+    {"dup 1, another key", 257, 3, 0, {5, 5, 6}},
+    {"dup 1, no such place", 257, 2, 0, {5, 5}},
+    {"dup 0, nothing", 256, 0, 0, {0}},
+    {"dup 2, out of reach", 258, 4, 0, {7, 5, 6, 7}},
+    {"swap 2", 514, 3, 0, {5, 6, 7}},
+    {"swap 2, no such place", 514, 2, 0, {5, 6}},
+    {"swap 3, out of reach", 515, 4, 0, {5, 6, 7, 8}},
+    {"swap 0", 512, 3, 0, {5, 6, 7}},
+    {"push 33", 801, 1, 0, {33}},
+    {"push 33, another key", 801, 1, 0, {34}},
+    {"push 33, nothing", 801, 0, 0, {0}},
+    {"push 5, a value", 773, 1, 0, {5}},
+    {"push 32", 800, 4, 0, {32, 1, 1, 1}},
+    {"load 5", 1029, 4, 0, {5, 1, 1, 1}},
+    {"load 5, another key", 1029, 1, 0, {6}},
+    {"load 5, nothing", 1029, 0, 0, {0}},
+    {"load 33, an immediate", 1057, 1, 0, {33}},
+    {"load 64", 1088, 1, 0, {0}},
+    {"another kind", 1280, 1, 0, {0}},
+};
+
+static void no_starts(void)
+{
+    NimskerfQuestion q = question_of(FIRST, 3, GOAL, 3);
+    q.dup_max = 2;
+    q.swap_max = 3;
+    q.max_len = 4;
+    for (size_t i = 0; i < sizeof WAYS / sizeof *WAYS; i++) {
+        Back b = {WAYS[i].end, WAYS[i].end_len, &WAYS[i].code, 1, WALK_POPPED, WAYS[i].popped_len, 21};
+        rewind_from(WAYS[i].name, &q, &b);
+    }
+}
+
+/* Steps in a row. */
+static void no_start_of_some(void)
+{
+    static const uint16_t push_pop[] = {801, 0}, pop_push[] = {0, 801}, pops[] = {0, 0, 0}, swap_pop[] = {514, 0};
+    static const uint8_t keys[] = {33, 34, 35};
+    NimskerfQuestion q = question_of(FIRST, 3, GOAL, 3);
+    q.max_len = 3;
+    Back b = {FIRST, 2, push_pop, 2, keys, 1, 21};
+    rewind_from("push 33, pop 33", &q, &b);
+    b.popped = keys + 1;
+    rewind_from("push 33, pop 34", &q, &b);
+    b.popped = keys;
+    b.end_len = 3;
+    rewind_from("push 33, pop 33, full", &q, &b);
+    b.codes = pop_push;
+    b.end = keys;
+    rewind_from("pop 33, push 33, full", &q, &b);
+    b.codes = pops;
+    b.count = b.popped_len = 3;
+    b.end_len = 0;
+    rewind_from("pop 33, 34, 35", &q, &b);
+    b.popped_len = 2;
+    rewind_from("pop 33, 34, a key too few", &q, &b);
+    b.popped_len = 3;
+    b.end_len = 1;
+    rewind_from("pop 33, 34, 35, full", &q, &b);
+    b.codes = swap_pop;
+    b.count = 2;
+    b.popped_len = 1;
+    b.end_len = 2;
+    rewind_from("swap 2, pop 33", &q, &b);
+    b.end_len = 1;
+    rewind_from("swap 2, pop 33, no such place", &q, &b);
+    b.count = 0;
+    rewind_from("no steps, a key", &q, &b);
+    b.popped_len = 0;
+    rewind_from("no steps", &q, &b);
+}
+
 int main(void)
 {
     for (size_t i = 0; i < 64; i++)
@@ -415,11 +632,16 @@ int main(void)
         prices[i] = 2 + i * 7 % 13;
     plans();
     replays_and_marks();
+    steps_back();
     packs();
     builders();
     desk();
     codes_and_texts();
     layouts();
     constants();
+    short_lists();
+    refusals_back();
+    no_starts();
+    no_start_of_some();
     return 0;
 }

@@ -9,7 +9,8 @@
 /* The lists stand this far apart, each in the middle of its room, so that one moves beside another and meets no third. */
 enum { ROOM = 32768, STATES = 10, MANY = NIMSKERF_MAX_STEPS + 1 };
 
-enum { START, GOAL, KINDS, PRICES, CODES, RESULT, STEPS, NODES, HEADS, OPEN, LISTS };
+/* POPPED is written by a replay, GIVEN are the popped keys that a stepping back reads. */
+enum { START, GOAL, KINDS, PRICES, CODES, END, GIVEN, RESULT, POPPED, STEPS, NODES, HEADS, OPEN, LISTS };
 
 typedef struct {
     unsigned char *at;
@@ -31,11 +32,13 @@ typedef struct {
 
 static alignas(64) unsigned char memory[LISTS][ROOM], before[LISTS][ROOM];
 static const uint16_t many[MANY];
+/* For the popped keys of more steps than a room has; they stay as they are. */
+static unsigned char wide[MANY];
 
-static const char *const NAMES[LISTS] = {
-    "start", "goal", "kinds", "prices", "codes", "result", "steps", "nodes", "heads", "open"};
-static const size_t WIDTHS[LISTS] = {1, 1, 1, 4, 2, 1, 2, 8, 8, 8};
-static const uint32_t NUMBERS[LISTS] = {5, 5, 4, 4, 8, 7, 7, 7, 7, 7};
+static const char *const NAMES[LISTS] = {"start",  "goal",   "kinds", "prices", "codes", "end", "given",
+                                         "result", "popped", "steps", "nodes",  "heads", "open"};
+static const size_t WIDTHS[LISTS] = {1, 1, 1, 4, 2, 1, 1, 1, 1, 2, 8, 8, 8};
+static const uint32_t NUMBERS[LISTS] = {5, 5, 4, 4, 8, 5, 5, 7, 7, 7, 7, 7, 7};
 
 static NimskerfQuestion question_of(const Call *c)
 {
@@ -68,8 +71,18 @@ static Outcome replay(const Call *c)
 {
     NimskerfQuestion q = question_of(c);
     NimskerfReplayed r = nimskerf_replay(
-        &q, (void *)c->lists[CODES].at, c->lists[CODES].len, c->lists[RESULT].at, c->lists[RESULT].len);
+        &q, (void *)c->lists[CODES].at, c->lists[CODES].len, c->lists[RESULT].at, c->lists[RESULT].len,
+        c->lists[POPPED].at, c->lists[POPPED].len);
     return (Outcome){r.refusal, r.index, r.length == 0 && r.highest == 0};
+}
+
+static Outcome back(const Call *c)
+{
+    NimskerfQuestion q = question_of(c);
+    NimskerfRewound r = nimskerf_rewind(
+        &q, c->lists[END].at, c->lists[END].len, (void *)c->lists[CODES].at, c->lists[CODES].len, c->lists[GIVEN].at,
+        c->lists[GIVEN].len, c->lists[RESULT].at, c->lists[RESULT].len);
+    return (Outcome){r.refusal, 0, r.length == 0};
 }
 
 static Outcome mark(const Call *c)
@@ -120,22 +133,31 @@ typedef struct {
 static const Function FUNCTIONS[] = {
     {"plan", plan, BIT(START) | BIT(GOAL) | BIT(KINDS) | BIT(PRICES) | BIT(STEPS) | BIT(NODES) | BIT(HEADS) | BIT(OPEN),
      BIT(STEPS) | BIT(NODES) | BIT(HEADS) | BIT(OPEN), TABLES | BIT(7), 3},
-    {"replay", replay, BIT(START) | BIT(KINDS) | BIT(CODES) | BIT(RESULT), BIT(RESULT), TABLES | BIT(7) | BIT(8), 3},
+    {"replay", replay, BIT(START) | BIT(KINDS) | BIT(CODES) | BIT(RESULT) | BIT(POPPED), BIT(RESULT) | BIT(POPPED),
+     TABLES | BIT(7) | BIT(8), 3},
+    {"rewind", back, BIT(END) | BIT(KINDS) | BIT(CODES) | BIT(GIVEN) | BIT(RESULT), BIT(RESULT),
+     TABLES | BIT(7) | BIT(11), 3},
     {"mark", mark, BIT(START) | BIT(GOAL) | BIT(KINDS) | BIT(PRICES) | BIT(CODES), 0, TABLES | BIT(8), 3},
     {"pack", pack, BIT(START), 0, BIT(5) | BIT(6), 3},
     {"star_swap", star_swap, BIT(START) | BIT(GOAL) | BIT(STEPS), BIT(STEPS), BUILDER | BIT(9), 3},
     {"delete_tail", delete_tail, BIT(START) | BIT(GOAL) | BIT(STEPS), BIT(STEPS), BUILDER | BIT(10), 2},
 };
 
-static const size_t LENGTHS[LISTS] = {3, 3, 64, 196, 2, 21, 128, 0, 0, 0};
+static const size_t LENGTHS[LISTS] = {3, 3, 64, 196, 2, 3, 1, 21, 2, 128, 0, 0, 0};
+
+/* The number for a list that cannot be read or written. A stepping back has no number for a step. */
+static uint32_t number_of(const Function *f, int list)
+{
+    return list == CODES && f->refuses & BIT(11) ? 11 : NUMBERS[list];
+}
 
 static size_t bytes_of(const Call *c, int list)
 {
     return c->lists[list].len * WIDTHS[list];
 }
 
-/* A call that is accepted: start and goal are 0 1 2, the kinds the desk's, the codes dup 0, pop. The prices are 0, and
- * so is all around them: from any byte on they are prices. */
+/* A call that is accepted: start, goal and end are 0 1 2, the kinds the desk's, the codes dup 0, pop, the popped key 0.
+ * The prices are 0, and so is all around them: from any byte on they are prices. */
 static Call accepted(const Function *f)
 {
     static const uint16_t codes[2] = {256, 0};
@@ -153,6 +175,8 @@ static Call accepted(const Function *f)
     c.numbers.max_expansions = c.numbers.states_without = c.numbers.states_with = STATES;
     memcpy(c.lists[START].at, "\0\1\2", 3);
     memcpy(c.lists[GOAL].at, "\0\1\2", 3);
+    memcpy(c.lists[END].at, "\0\1\2", 3);
+    c.lists[GIVEN].at[0] = 0;
     memcpy(c.lists[KINDS].at, desk.kinds, desk.kinds_len);
     memset(memory[PRICES], 0, sizeof memory[PRICES]);
     memcpy(c.lists[CODES].at, codes, sizeof codes);
@@ -162,6 +186,7 @@ static Call accepted(const Function *f)
 /* Gives a call a fault of this number, 1 to 7, that has nothing to do with pointers. */
 static void spoil(const Function *f, Call *c, uint32_t number)
 {
+    int window = f->takes & BIT(END) ? END : START;
     switch (number) {
     case 1: c->numbers.swap_max = NIMSKERF_SWAP_MAX + 1; break;
     case 2: c->numbers.max_len = NIMSKERF_MAX_LEN + 1; break;
@@ -172,10 +197,10 @@ static void spoil(const Function *f, Call *c, uint32_t number)
             c->lists[CODES].at = (void *)many;
         break;
     case 4: c->lists[KINDS].len--; break;
-    case 5: memory[START][ROOM / 2] = NIMSKERF_KEYS; break;
+    case 5: memory[window][ROOM / 2] = NIMSKERF_KEYS; break;
     case 6:
-        memset(memory[START] + ROOM / 2, 1, NIMSKERF_MAX_LEN + 1);
-        c->lists[START].len = NIMSKERF_MAX_LEN + 1;
+        memset(memory[window] + ROOM / 2, 1, NIMSKERF_MAX_LEN + 1);
+        c->lists[window].len = NIMSKERF_MAX_LEN + 1;
         break;
     default: c->lists[RESULT].len--; break;
     }
@@ -195,7 +220,8 @@ static bool refused(const Function *f, const Call *c, uint32_t number)
 {
     memcpy(before, memory, sizeof memory);
     Outcome o = f->ask(c);
-    return o.refusal == number && o.index == 0 && o.bare && memcmp(before, memory, sizeof memory) == 0;
+    return o.refusal == number && o.index == 0 && o.bare && memcmp(before, memory, sizeof memory) == 0 &&
+           memcmp(wide, many, sizeof wide) == 0;
 }
 
 static bool answered(const Function *f, const Call *c)
@@ -203,12 +229,16 @@ static bool answered(const Function *f, const Call *c)
     return f->ask(c).refusal == 0;
 }
 
-/* The call's list somewhere else. */
+/* The call's list somewhere else. More steps have a longer popped list. */
 static Call with(const Function *f, int list, unsigned char *at, size_t len)
 {
     Call c = accepted(f);
     c.lists[list].at = at;
     c.lists[list].len = len;
+    if (list == CODES && len > LENGTHS[CODES]) {
+        c.lists[POPPED].at = wide;
+        c.lists[POPPED].len = len < MANY ? len : MANY;
+    }
     return c;
 }
 
@@ -231,11 +261,12 @@ static bool refused_in_turn(const Function *f, int list, unsigned char *at, size
 static void null(const Function *f, int list)
 {
     size_t len = accepted(f).lists[list].len;
-    bool holds = refused_in_turn(f, list, NULL, len, NUMBERS[list]);
-    holds = refused_in_turn(f, list, NULL, 1, NUMBERS[list]) && holds;
-    holds = refused_in_turn(f, list, NULL, SIZE_MAX, list == CODES ? 3 : NUMBERS[list]) && holds;
+    uint32_t number = number_of(f, list);
+    bool holds = refused_in_turn(f, list, NULL, len, number);
+    holds = refused_in_turn(f, list, NULL, 1, number) && holds;
+    holds = refused_in_turn(f, list, NULL, SIZE_MAX, list == CODES ? 3 : number) && holds;
     if (list == CODES) {
-        holds = refused_in_turn(f, list, NULL, MANY - 1, 8) && holds;
+        holds = refused_in_turn(f, list, NULL, MANY - 1, number) && holds;
         holds = refused_in_turn(f, list, NULL, MANY, 3) && holds;
     }
     report("NULL", f->name, NAMES[list], "", holds);
@@ -246,7 +277,7 @@ static void not_aligned(const Function *f, int list)
     Call c = accepted(f);
     bool holds = true;
     for (size_t by = 1; by < WIDTHS[list]; by++)
-        holds = refused_in_turn(f, list, c.lists[list].at + by, c.lists[list].len, NUMBERS[list]) && holds;
+        holds = refused_in_turn(f, list, c.lists[list].at + by, c.lists[list].len, number_of(f, list)) && holds;
     report("not aligned", f->name, NAMES[list], "", holds);
 }
 
@@ -303,6 +334,7 @@ static void shared(const Function *f)
 {
     Call c = accepted(f);
     c.lists[GOAL].at = c.lists[START].at;
+    c.lists[GIVEN].at = c.lists[END].at;
     bool holds = answered(f, &c);
     for (int i = 0; i < LISTS; i++)
         if (!(f->takes & BIT(i))) {
@@ -342,11 +374,14 @@ static void nothing(void)
     NimskerfQuestion q = question_of(&c);
     NimskerfCost ceiling = {0, 0};
     uint16_t *steps = (void *)c.lists[STEPS].at;
+    unsigned char *result = c.lists[RESULT].at, *popped = c.lists[POPPED].at, *end = c.lists[END].at;
     NimskerfLists lists = {
         steps, 128, (void *)c.lists[NODES].at, c.lists[NODES].len, (void *)c.lists[HEADS].at, c.lists[HEADS].len,
         (void *)c.lists[OPEN].at, c.lists[OPEN].len};
     report("no question", "plan", "", "", nimskerf_plan(NULL, &lists).refusal == 4);
-    report("no question", "replay", "", "", nimskerf_replay(NULL, steps, 2, c.lists[RESULT].at, 21).refusal == 4);
+    report("no question", "replay", "", "", nimskerf_replay(NULL, steps, 2, result, 21, popped, 2).refusal == 4);
+    NimskerfRewound rewound = nimskerf_rewind(NULL, end, 3, steps, 2, popped, 1, result, 21);
+    report("no question", "rewind", "", "", rewound.refusal == 4);
     report("no question", "mark", "", "", nimskerf_mark(NULL, steps, 2, ceiling).refusal == 4);
     report("no question", "mark, too many steps", "", "", nimskerf_mark(NULL, many, MANY, ceiling).refusal == 3);
     report("no question", "star_swap", "", "", nimskerf_star_swap(NULL, steps, 128).refusal == 5);
@@ -358,10 +393,50 @@ static void nothing(void)
     report("no question, no lists", "plan", "", "", nimskerf_plan(NULL, NULL).refusal == 4);
 }
 
+/* No steps need no popped list: one that counts as empty will do, and nothing is written there. */
+static void no_steps(void)
+{
+    static const int others[] = {START, KINDS, POPPED};
+    const Function *f = &FUNCTIONS[1];
+    Call c;
+    for (size_t i = 0; i < sizeof others / sizeof *others; i++) {
+        c = with(f, CODES, NULL, 0);
+        c.lists[POPPED].at = c.lists[others[i]].at;
+        memcpy(before, memory, sizeof memory);
+        memcpy(before[RESULT] + ROOM / 2, "\0\1\2", 3);
+        bool holds = answered(f, &c) && memcmp(before, memory, sizeof memory) == 0;
+        report("no steps", f->name, NAMES[POPPED], NAMES[others[i]], holds);
+    }
+    c = with(f, CODES, NULL, 0);
+    c.lists[POPPED].at = NULL;
+    report("no steps", f->name, NAMES[POPPED], "NULL", answered(f, &c));
+    c = with(f, POPPED, NULL, 1);
+    c.lists[CODES].len = 1;
+    report("one step", f->name, NAMES[POPPED], "NULL", refused(f, &c, 7));
+    c = with(f, CODES, NULL, 0);
+    c.lists[POPPED].at = c.lists[RESULT].at;
+    report("no steps", f->name, NAMES[POPPED], NAMES[RESULT], refused(f, &c, 7));
+}
+
+/* How many Pops: none in a list that cannot be read. */
+static void pops(void)
+{
+    static const uint16_t codes[] = {0, 256, 0, 1, 0, 65535, 0};
+    static alignas(2) const unsigned char zeros[8];
+    report("pops", "codes", "", "", nimskerf_pops(codes, 7) == 4 && nimskerf_pops(codes + 1, 4) == 2);
+    report("pops", "many", "", "", nimskerf_pops(many, MANY) == MANY);
+    report("pops", "aligned", "", "", nimskerf_pops((const void *)zeros, 3) == 3);
+    report("pops", "not aligned", "", "", nimskerf_pops((const void *)(zeros + 1), 3) == 0);
+    report("pops", "NULL", "", "", nimskerf_pops(NULL, 3) == 0 && nimskerf_pops(NULL, SIZE_MAX) == 0);
+    report("pops", "empty", "", "", nimskerf_pops(NULL, 0) == 0 && nimskerf_pops(codes, 0) == 0);
+}
+
 int main(void)
 {
     for (size_t i = 0; i < sizeof FUNCTIONS / sizeof *FUNCTIONS; i++)
         lists_of(&FUNCTIONS[i]);
     nothing();
+    no_steps();
+    pops();
     return failures != 0;
 }

@@ -1,23 +1,25 @@
-//! Replay and marking against the model; packing, star-swap and delete-tail against the Rust.
+//! Replay, marking and stepping back against the model; packing, star-swap and delete-tail against the Rust.
 
 use crate::{
-    case::{Call, Case, Limits, Tables},
+    case::{Call, Case, Tables},
     compare::{Run, Sides},
     draw::{self, Random},
     exhaustive::windows,
-    model,
+    model, walks,
 };
 use std::sync::Arc;
 
 pub fn runs(seed: u64, count: u64) -> Vec<Run> {
-    vec![
+    let mut runs = vec![
         Run::new("exercises", seed, count, |sides, mut random| exercise(&mut random, sides)),
         small_windows(),
         Run::new("windows", seed, count, |sides, mut random| {
             pack(&mut random, sides);
             builders(&mut random, sides);
         }),
-    ]
+    ];
+    runs.extend(walks::runs(seed, count));
+    runs
 }
 
 /// One replay and one marking of the same steps, most of them allowed.
@@ -25,7 +27,8 @@ fn exercise(random: &mut Random, sides: &mut Sides) {
     let mut case = Case::new(Call::Replay, &Arc::new(draw::tables(random)));
     case.limits = draw::limits(random);
     (case.start, case.goal) = draw::windows(random, case.limits.max_len);
-    case.steps = draw_steps(random, &case.start, &case.limits, &case.tables);
+    let count = random.below(40);
+    case.steps = draw::steps(random, &case, count);
     if random.once_in(12) {
         for _ in 0..1 + random.below(2) {
             draw::spoil(random, &mut case);
@@ -37,6 +40,7 @@ fn exercise(random: &mut Random, sides: &mut Sides) {
         case.steps.iter_mut().step_by(2).for_each(|step| *step = 256);
     }
     case.lent.steps = if random.once_in(10) { random.below(21) } else { 21 + random.below(5) };
+    case.lent.popped = draw::popped_room(random, case.steps.len());
     let replayed = sides.compare(&case, random).answer;
 
     // Marked against the window reached, so that costs count, or against the drawn goal.
@@ -58,42 +62,6 @@ fn exercise(random: &mut Random, sides: &mut Sides) {
         _ => [gas, bytes],
     };
     sides.compare(&case, random);
-}
-
-/// Steps that mostly fit the window, one in some dozens at random.
-fn draw_steps(random: &mut Random, start: &[u8], limits: &Limits, tables: &Tables) -> Vec<u16> {
-    let mut length = start.len();
-    let fault = random.pick(&[20, 60, 1_000_000]);
-    (0..random.below(40))
-        .map(|_| {
-            if random.once_in(fault) {
-                return random.pick(&[0, 256, 512, 768, 1024, 1280]) + random.below(80) as u16;
-            }
-            let room = length < limits.max_len;
-            let dup = length.min(limits.dup_max);
-            let swap = length.min(limits.swap_max);
-            match random.below(4) {
-                0 if length > 0 => {
-                    length -= 1;
-                    0
-                }
-                1 if room && dup > 0 => {
-                    length += 1;
-                    256 + random.below(dup) as u16
-                }
-                2 if swap > 1 => 512 + 1 + random.below(swap - 1) as u16,
-                _ if room => {
-                    length += 1;
-                    let key = random.below(64);
-                    (if tables.kinds[key] == 0 { 1024 } else { 768 }) + key as u16
-                }
-                _ => {
-                    length = length.saturating_sub(1);
-                    0
-                }
-            }
-        })
-        .collect()
 }
 
 fn pack(random: &mut Random, sides: &mut Sides) {

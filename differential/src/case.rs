@@ -16,13 +16,17 @@ pub enum Call {
     Pack = 3,
     StarSwap = 4,
     DeleteTail = 5,
+    /// Stepping back.
+    Rewind = 6,
 }
 
 impl Call {
-    pub const ALL: [Self; 6] = [Self::Plan, Self::Replay, Self::Mark, Self::Pack, Self::StarSwap, Self::DeleteTail];
+    pub const COUNT: usize = 7;
+    pub const ALL: [Self; Self::COUNT] =
+        [Self::Plan, Self::Replay, Self::Mark, Self::Pack, Self::StarSwap, Self::DeleteTail, Self::Rewind];
 
     pub fn name(self) -> &'static str {
-        ["planner", "replay", "marking", "packing", "star-swap", "delete-tail"][self as usize]
+        ["planner", "replay", "marking", "packing", "star-swap", "delete-tail", "rewind"][self as usize]
     }
 
     pub fn from_name(name: &str) -> Option<Self> {
@@ -37,6 +41,7 @@ impl Call {
             Self::Mark => &["index", "mark", "highest"],
             Self::Pack => &["bits 0 to 31", "bits 32 to 63", "bits 64 to 95", "bits 96 to 127"],
             Self::StarSwap | Self::DeleteTail => &["step count"],
+            Self::Rewind => &["length"],
         }
     }
 }
@@ -91,23 +96,25 @@ pub fn limits(numbers: [usize; 6]) -> Limits {
     Limits { dup_max, swap_max, max_len, max_expansions, states_without, states_with }
 }
 
-/// Lengths of the lists lent, as counts of numbers; `steps` is the result list's for a replay.
+/// Lengths of the lists lent, as counts of numbers; `steps` is the result list's for a replay and a stepping back,
+/// `popped` that of the list for a replay's popped keys.
 #[derive(Clone, Copy, Debug, Default, PartialEq, Eq)]
 pub struct Lengths {
     pub steps: usize,
     pub nodes: usize,
     pub heads: usize,
     pub open: usize,
+    pub popped: usize,
 }
 
 impl Lengths {
-    pub fn numbers(&self) -> [usize; 4] {
-        [self.steps, self.nodes, self.heads, self.open]
+    pub fn numbers(&self) -> [usize; 5] {
+        [self.steps, self.nodes, self.heads, self.open, self.popped]
     }
 
-    pub fn of(numbers: [usize; 4]) -> Self {
-        let [steps, nodes, heads, open] = numbers;
-        Self { steps, nodes, heads, open }
+    pub fn of(numbers: [usize; 5]) -> Self {
+        let [steps, nodes, heads, open, popped] = numbers;
+        Self { steps, nodes, heads, open, popped }
     }
 }
 
@@ -159,10 +166,13 @@ impl Tables {
 #[derive(Clone, Debug, PartialEq, Eq)]
 pub struct Case {
     pub call: Call,
+    /// The window that the call begins with: the start, of a stepping back the end.
     pub start: Vec<u8>,
     pub goal: Vec<u8>,
-    /// The steps that a replay or a marking is asked.
+    /// The steps that a replay, a marking or a stepping back is asked.
     pub steps: Vec<u16>,
+    /// The popped keys that a stepping back is given, the first popped first.
+    pub popped: Vec<u8>,
     pub limits: Limits,
     pub tables: Arc<Tables>,
     /// What a marking holds the steps to: gas, bytes.
@@ -178,6 +188,7 @@ impl Case {
             start: Vec::new(),
             goal: Vec::new(),
             steps: Vec::new(),
+            popped: Vec::new(),
             limits: Limits::default(),
             tables: Arc::clone(tables),
             ceiling: [0; 2],
@@ -197,12 +208,19 @@ impl Case {
         let Limits { dup_max, swap_max, max_len, .. } = self.limits;
         let desk = Tables::desk();
         let mut case = self.clone();
+        if self.call != Call::Rewind {
+            case.popped = Vec::new();
+        }
         match self.call {
-            Call::Plan => (case.steps, case.ceiling) = (Vec::new(), [0; 2]),
-            Call::Replay => {
+            Call::Plan => {
+                (case.steps, case.ceiling) = (Vec::new(), [0; 2]);
+                case.lent.popped = 0;
+            }
+            Call::Replay | Call::Rewind => {
+                let popped = if self.call == Call::Replay { self.lent.popped } else { 0 };
                 (case.goal, case.ceiling) = (Vec::new(), [0; 2]);
                 case.limits = Limits { dup_max, swap_max, max_len, ..Limits::default() };
-                case.lent = Lengths { steps: self.lent.steps, ..Lengths::default() };
+                case.lent = Lengths { steps: self.lent.steps, popped, ..Lengths::default() };
                 Arc::make_mut(&mut case.tables).prices = desk.prices;
             }
             Call::Mark => {
@@ -234,9 +252,11 @@ impl Case {
                     nodes: entries.saturating_mul(8),
                     heads: entries,
                     open: entries.saturating_mul(4),
+                    popped: 0,
                 }
             }
-            Call::Replay => Lengths { steps: 21, ..Lengths::default() },
+            Call::Replay => Lengths { steps: 21, popped: self.steps.len(), ..Lengths::default() },
+            Call::Rewind => Lengths { steps: 21, ..Lengths::default() },
             Call::StarSwap | Call::DeleteTail => Lengths { steps: 128, ..Lengths::default() },
             Call::Mark | Call::Pack => Lengths::default(),
         }
@@ -256,6 +276,8 @@ pub struct Answer {
     pub plan: Vec<u16>,
     /// What is written to the result list.
     pub window: Vec<u8>,
+    /// What is written to the list for popped keys.
+    pub popped: Vec<u8>,
 }
 
 impl Answer {
@@ -275,7 +297,7 @@ impl Answer {
         (self.fields[at], self.fields[at + 1])
     }
 
-    /// In words: the refusal or each field, then the steps or the window.
+    /// In words: the refusal or each field, then the steps, the window and the popped keys.
     pub fn text(&self, call: Call) -> String {
         let mut text = if self.refusal != 0 { format!("refused {}", self.refusal) } else { String::from("accepted") };
         // Beside a refusal a field is shown only if it is not 0.
@@ -290,6 +312,9 @@ impl Answer {
         }
         if !self.window.is_empty() {
             text += &format!("; window {:?}", self.window);
+        }
+        if !self.popped.is_empty() {
+            text += &format!("; popped {:?}", self.popped);
         }
         text
     }

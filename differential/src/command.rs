@@ -2,14 +2,17 @@
 //!
 //!   ask DUP_MAX SWAP_MAX MAX_LEN MAX_EXPANSIONS WITHOUT WITH START GOAL [WORD=VALUE ..]
 //!
-//! START and GOAL are keys parted by spaces. The words, with what a missing one means:
+//! START and GOAL are keys parted by spaces; of `call=rewind`, stepping back, START is the end window. The words, with
+//! what a missing one means:
 //!
-//! - `call=`    planner (missing), replay, marking, packing, star-swap, delete-tail
+//! - `call=`    planner (missing), replay, marking, packing, star-swap, delete-tail, rewind
 //! - `steps=`   step codes, parted by commas: none
+//! - `popped=`  the popped keys that a stepping back is given, parted by commas: none
 //! - `ceiling=` gas, bytes: 0,0
 //! - `kinds=`   the kinds, parted by commas: the desk's
 //! - `prices=`  the prices, parted by commas: the desk's
-//! - `lent=`    lengths of step list (replay: result list), nodes, heads, open list: the least
+//! - `lent=`    lengths of step list (replay, rewind: result list), nodes, heads, open list, a replay's list for popped
+//!   keys: the least
 //!
 //! `A*N` stands for N times A, and `A/B*N` for N times A, B.
 
@@ -26,6 +29,9 @@ pub fn command(case: &Case) -> String {
     if !case.steps.is_empty() {
         let (one, two) = (runs(&case.steps, 1), runs(&case.steps, 2));
         words.push(format!("steps={}", if two.len() < one.len() { two } else { one }));
+    }
+    if !case.popped.is_empty() {
+        words.push(format!("popped={}", runs(&case.popped, 1)));
     }
     if case.ceiling != [0; 2] {
         words.push(format!("ceiling={}", joined(&case.ceiling, ",")));
@@ -77,6 +83,7 @@ pub fn parse(words: &[&str]) -> Result<Case, String> {
         match name {
             "call" => case.call = Call::from_name(value).ok_or_else(|| format!("`{value}` is no call"))?,
             "steps" => case.steps = list("a step code", value)?,
+            "popped" => case.popped = list("a key", value)?,
             "ceiling" => case.ceiling = fixed("ceiling", list("a ceiling", value)?)?,
             "kinds" => Arc::make_mut(&mut case.tables).kinds = list("a kind", value)?,
             "prices" => Arc::make_mut(&mut case.tables).prices = list("a price", value)?,

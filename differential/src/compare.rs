@@ -1,7 +1,7 @@
 //! One case asked of both sides, and runs of many.
 
 use crate::{
-    case::{Answer, Case},
+    case::{Answer, Call, Case},
     draw::Random,
     expect,
     faces::FACES,
@@ -50,13 +50,16 @@ impl Sides {
 
     /// Asks the port the question of a record; what differs from the record's answer, in words.
     pub fn differs_from(&mut self, record: &Record, random: &mut Random) -> Option<String> {
-        let Record { case, answer: expected, fields } = record;
+        let Record { case, answer: expected, fields, has_popped } = record;
         self.port.forget();
         self.port.lend(case, random);
         FACES.iter().find_map(|face| {
             let mut outcome = self.port.ask(face, case, expected.refusal != 0);
-            // A field that the record does not have is not compared.
+            // What the record does not have is not compared.
             outcome.answer.fields[*fields..].copy_from_slice(&expected.fields[*fields..]);
+            if !has_popped {
+                outcome.answer.popped.clone_from(&expected.popped);
+            }
             (!as_expected(&outcome, expected)).then(|| difference(case, face.name, &outcome, expected))
         })
     }
@@ -125,6 +128,8 @@ pub struct Run {
     /// The items are 0, `step`, twice `step` and so on, below `end`.
     pub step: u64,
     pub end: u64,
+    /// Calls with numbers, 0 for accepted, that must occur: without them the run shows nothing.
+    needs: &'static [(Call, u32)],
     each: Box<Item>,
 }
 
@@ -132,7 +137,18 @@ impl Run {
     /// A run over the items below `end`. Each is drawn by the random numbers of the seed and the item.
     pub fn new(name: &'static str, seed: u64, end: u64, each: impl Fn(&mut Sides, Random) + Sync + 'static) -> Self {
         let each = move |sides: &mut Sides, index| each(sides, Random::new(seed, index));
-        Self { name, seed, step: 1, end, each: Box::new(each) }
+        Self { name, seed, step: 1, end, needs: &[], each: Box::new(each) }
+    }
+
+    /// The run fails where one of these does not occur.
+    pub fn needing(self, needs: &'static [(Call, u32)]) -> Self {
+        Self { needs, ..self }
+    }
+
+    /// What had to occur and did not, in words.
+    pub fn missing(&self, tally: &Tally) -> Vec<String> {
+        let missing = self.needs.iter().filter(|&&(call, number)| tally.answered(call, number) == 0);
+        missing.map(|(call, number)| format!("{} never answers {number}", call.name())).collect()
     }
 
     /// Every so many items only.
@@ -176,12 +192,15 @@ impl Run {
         total
     }
 
-    /// All items, with the counts printed, and each of the first differences repeated by `again` and its item.
-    pub fn report(&self, threads: usize, again: &str) -> Tally {
+    /// All items, with the counts printed, and each of the first differences repeated by `again` and its item. Gives
+    /// what did not occur too.
+    pub fn report(&self, threads: usize, again: &str) -> (Tally, Vec<String>) {
         let begun = Instant::now();
         let tally = self.over(threads);
         println!("{} ({:.1} s on {threads} threads)\n{tally}", self.name, begun.elapsed().as_secs_f64());
         tally.print_differences(self.seed, &format!("{again} only={}:", self.name));
-        tally
+        let missing = self.missing(&tally);
+        missing.iter().for_each(|what| println!("missing        {what}"));
+        (tally, missing)
     }
 }

@@ -209,6 +209,58 @@ pub fn question(random: &mut Random, tables: &Arc<Tables>) -> Case {
     Case::plan(limits, &start, &goal, tables)
 }
 
+/// So many steps that mostly fit the window, one in some dozens at random.
+pub fn steps(random: &mut Random, case: &Case, count: usize) -> Vec<u16> {
+    let Case { start, limits, tables, .. } = case;
+    let mut length = start.len();
+    let fault = random.pick(&[20, 60, 1_000_000]);
+    (0..count)
+        .map(|_| {
+            if random.once_in(fault) {
+                return code(random);
+            }
+            let room = length < limits.max_len;
+            let dup = length.min(limits.dup_max);
+            let swap = length.min(limits.swap_max);
+            match random.below(4) {
+                0 if length > 0 => {
+                    length -= 1;
+                    0
+                }
+                1 if room && dup > 0 => {
+                    length += 1;
+                    256 + random.below(dup) as u16
+                }
+                2 if swap > 1 => 512 + 1 + random.below(swap - 1) as u16,
+                _ if room => {
+                    length += 1;
+                    let key = random.below(64);
+                    (if tables.kinds[key] == 0 { 1024 } else { 768 }) + key as u16
+                }
+                _ => {
+                    length = length.saturating_sub(1);
+                    0
+                }
+            }
+        })
+        .collect()
+}
+
+/// A step code of any kind, many of them of no step.
+pub fn code(random: &mut Random) -> u16 {
+    random.pick(&[0, 256, 512, 768, 1024, 1280]) + random.below(80) as u16
+}
+
+/// Places for the popped keys of so many steps: as many, more, one too few, or any number below.
+pub fn popped_room(random: &mut Random, steps: usize) -> usize {
+    match random.below(24) {
+        0 => steps.saturating_sub(1),
+        1 => random.below(steps.max(1)),
+        2..10 => steps + 1 + random.below(5),
+        _ => steps,
+    }
+}
+
 /// Spoils one thing of a case; the lists lent stay.
 pub fn spoil(random: &mut Random, case: &mut Case) {
     let limits = &mut case.limits;
@@ -239,7 +291,7 @@ pub fn spoil(random: &mut Random, case: &mut Case) {
     }
 }
 
-fn set<T: Copy>(random: &mut Random, list: &mut [T], values: &[T]) {
+pub fn set<T: Copy>(random: &mut Random, list: &mut [T], values: &[T]) {
     if !list.is_empty() {
         list[random.below(list.len())] = random.pick(values);
     }

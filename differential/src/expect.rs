@@ -4,6 +4,7 @@ use crate::{
     case::{Answer, Call, Case, FOUND, HIGHEST},
     model,
     reference::{self, Reference},
+    rewinding,
 };
 
 /// Stands for a refusal where the model and the Rust disagree on whether there is an answer, or on whether a plan leads to
@@ -17,6 +18,7 @@ pub fn answer(case: &Case, reference: &mut Reference) -> Answer {
         (Call::Plan, 0) => with_highest(case, reference.plan(case)),
         (Call::Replay, 0) => model::replay(case),
         (Call::Mark, 0) => model::mark(case),
+        (Call::Rewind, 0) => rewinding::answer(rewinding::start_before(case).ok()),
         (Call::Pack, _) => agreed(refusal, reference::pack(&case.start).map(packed)),
         (Call::StarSwap, 0 | 9) => {
             agreed(refusal, reference::star_swap(&case.start, &case.goal, case.limits.swap_max).map(built))

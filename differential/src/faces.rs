@@ -6,7 +6,7 @@ use crate::{
 };
 use nimskerf::{
     raw,
-    sys::{self, NimskerfAnswer, NimskerfBuilt, NimskerfMarked, NimskerfPacked, NimskerfReplayed},
+    sys::{self, NimskerfAnswer, NimskerfBuilt, NimskerfMarked, NimskerfPacked, NimskerfReplayed, NimskerfRewound},
 };
 use std::ptr;
 
@@ -14,14 +14,19 @@ use std::ptr;
 pub struct Face {
     pub name: &'static str,
     pub call: fn(&Case, Lists<'_>) -> Answer,
+    /// How many keys an accepted replay of these steps pops.
+    pub pops: fn(&[u16]) -> usize,
 }
 
 /// Every question goes through each of these, in this order.
-pub const FACES: [Face; 2] = [Face { name: "proved", call: proved }, Face { name: "checked", call: checked }];
+pub const FACES: [Face; 2] = [
+    Face { name: "proved", call: proved, pops: raw::pops },
+    Face { name: "checked", call: checked, pops: checked_pops },
+];
 
 /// The proved functions, on slices.
 fn proved(case: &Case, lists: Lists<'_>) -> Answer {
-    let Case { start, goal, steps, limits, tables, ceiling, .. } = case;
+    let Case { start, goal, steps, popped, limits, tables, ceiling, .. } = case;
     let (dup_max, swap_max, max_len) = (limits.dup_max, limits.swap_max, limits.max_len);
     let (kinds, prices) = (&tables.kinds, &tables.prices);
     match case.call {
@@ -29,7 +34,10 @@ fn proved(case: &Case, lists: Lists<'_>) -> Answer {
             let lent = raw::Lists { steps: lists.steps, nodes: lists.nodes, heads: lists.heads, open: lists.open };
             planned(raw::plan(start, goal, &raw_limits(limits), kinds, prices, lent))
         }
-        Call::Replay => replayed(raw::replay(start, steps, dup_max, swap_max, max_len, kinds, lists.result)),
+        Call::Replay => {
+            replayed(raw::replay(start, steps, dup_max, swap_max, max_len, kinds, lists.result, lists.popped))
+        }
+        Call::Rewind => rewound(raw::rewind(start, steps, popped, dup_max, swap_max, max_len, kinds, lists.result)),
         Call::Mark => {
             let [gas, bytes] = *ceiling;
             marked(raw::mark(start, goal, steps, dup_max, swap_max, max_len, kinds, prices, gas, bytes))
@@ -49,32 +57,31 @@ pub fn raw_limits(limits: &Limits) -> raw::Limits {
 /// The functions of nimskerf.h, which check their pointers. An empty list is NULL.
 fn checked(case: &Case, lists: Lists<'_>) -> Answer {
     let question = question(case);
-    let (steps, result) = (pointer_mut(lists.steps), pointer_mut(lists.result));
+    let (steps, result, popped) = (pointer_mut(lists.steps), pointer_mut(lists.result), pointer_mut(lists.popped));
+    let (asked, asked_len, result_len) = (pointer(&case.steps), case.steps.len(), lists.result.len());
     // SAFETY: every pointer comes from a slice with its own length, or is null with length 0; the lists that are
     // written are `&mut`, so they overlap nothing.
     unsafe {
         match case.call {
             Call::Plan => {
-                let lent = sys::NimskerfLists {
-                    steps,
-                    steps_len: lists.steps.len(),
-                    nodes: pointer_mut(lists.nodes),
-                    nodes_len: lists.nodes.len(),
-                    heads: pointer_mut(lists.heads),
-                    heads_len: lists.heads.len(),
-                    open: pointer_mut(lists.open),
-                    open_len: lists.open.len(),
-                };
+                let lent = planner_lists(lists);
                 planned(sys::nimskerf_plan(&question, &lent))
             }
             Call::Replay => {
-                let asked = pointer(&case.steps);
-                replayed(sys::nimskerf_replay(&question, asked, case.steps.len(), result, lists.result.len()))
+                let room = lists.popped.len();
+                replayed(sys::nimskerf_replay(&question, asked, asked_len, result, result_len, popped, room))
+            }
+            Call::Rewind => {
+                let (end, end_len) = (pointer(&case.start), case.start.len());
+                let (given, given_len) = (pointer(&case.popped), case.popped.len());
+                rewound(sys::nimskerf_rewind(
+                    &question, end, end_len, asked, asked_len, given, given_len, result, result_len,
+                ))
             }
             Call::Mark => {
                 let [gas, bytes] = case.ceiling;
                 let ceiling = sys::NimskerfCost { gas, bytes };
-                marked(sys::nimskerf_mark(&question, pointer(&case.steps), case.steps.len(), ceiling))
+                marked(sys::nimskerf_mark(&question, asked, asked_len, ceiling))
             }
             Call::Pack => packed(sys::nimskerf_pack(pointer(&case.start), case.start.len())),
             Call::StarSwap => built(sys::nimskerf_star_swap(&question, steps, lists.steps.len())),
@@ -83,9 +90,32 @@ fn checked(case: &Case, lists: Lists<'_>) -> Answer {
     }
 }
 
-/// A case's question for the checked functions.
+/// The lists of a planning for the checked functions.
+fn planner_lists(lists: Lists<'_>) -> sys::NimskerfLists {
+    sys::NimskerfLists {
+        steps: pointer_mut(lists.steps),
+        steps_len: lists.steps.len(),
+        nodes: pointer_mut(lists.nodes),
+        nodes_len: lists.nodes.len(),
+        heads: pointer_mut(lists.heads),
+        heads_len: lists.heads.len(),
+        open: pointer_mut(lists.open),
+        open_len: lists.open.len(),
+    }
+}
+
+fn checked_pops(steps: &[u16]) -> usize {
+    // SAFETY: the pointer comes from a slice with its own length, or is null with length 0.
+    unsafe { sys::nimskerf_pops(pointer(steps), steps.len()) }
+}
+
+/// A start that every call refuses which looks at it.
+const NO_START: [u8; 22] = [255; 22];
+
+/// A case's question for the checked functions. A stepping back does not take its start.
 fn question(case: &Case) -> sys::NimskerfQuestion {
-    let Case { start, goal, limits, tables, .. } = case;
+    let Case { goal, limits, tables, .. } = case;
+    let start = if case.call == Call::Rewind { &NO_START[..] } else { &case.start };
     sys::NimskerfQuestion {
         start: pointer(start),
         start_len: start.len(),
@@ -132,6 +162,10 @@ fn planned(answer: NimskerfAnswer) -> Answer {
 
 fn replayed(answer: NimskerfReplayed) -> Answer {
     Answer::of(answer.refusal, [answer.index as u64, answer.length as u64, answer.highest as u64])
+}
+
+fn rewound(answer: NimskerfRewound) -> Answer {
+    Answer::of(answer.refusal, [answer.length as u64])
 }
 
 fn marked(answer: NimskerfMarked) -> Answer {

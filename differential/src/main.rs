@@ -17,11 +17,13 @@ mod port;
 mod random;
 mod record;
 mod reference;
+mod rewinding;
 mod short;
 mod shrink;
 mod tally;
 mod vector_questions;
 mod vectors;
+mod walks;
 
 use compare::Run;
 use std::process::ExitCode;
@@ -78,9 +80,11 @@ fn runs(mode: &[&str]) -> Vec<Run> {
 /// Runs everything, with the sums of what was accepted and refused.
 fn all_items(runs: &[Run], threads: usize, mode: &[&str]) -> bool {
     let again = format!("differential/run {}", mode.join(" "));
-    let mut total = Tally::default();
+    let (mut total, mut missing) = (Tally::default(), 0);
     for run in runs {
-        total += run.report(threads, &again);
+        let (tally, lacking) = run.report(threads, &again);
+        total += tally;
+        missing += lacking.len();
     }
     println!(
         "in all         {} accepted, {} refused, {} differences",
@@ -88,7 +92,7 @@ fn all_items(runs: &[Run], threads: usize, mode: &[&str]) -> bool {
         total.refusals(),
         total.differences
     );
-    total.differences == 0
+    total.differences == 0 && missing == 0
 }
 
 /// Runs one item, `only=RUN:ITEM`.

@@ -1,5 +1,5 @@
-//! Refusals, replay, marking and the highest window, written from document 01 and the change requests, apart from the port
-//! and the reference.
+//! Refusals, replay with its popped keys, marking and the highest window, written from document 01 and the change
+//! requests, apart from the port and the reference. Stepping back past its lower refusals is in `rewinding`.
 
 use crate::case::{Answer, Call, Case, DUP, KEY, POP, SWAP};
 
@@ -28,7 +28,7 @@ fn bad_key(window: &[u8]) -> bool {
     window.iter().any(|&key| key >= 64)
 }
 
-/// The number that refuses a call, 0 if none does; all but the step's index at 8.
+/// The number that refuses a call, 0 if none does; all but 8 and 11.
 pub fn refusal(case: &Case) -> u32 {
     match case.call {
         Call::Plan => plan_refusal(case),
@@ -38,6 +38,15 @@ pub fn refusal(case: &Case) -> u32 {
             (3, case.steps.len() > 65_536),
             (4, bad_kinds(case)),
             (5, bad_key(&case.start)),
+            (6, case.start.len() > case.limits.max_len),
+            (7, case.lent.steps < 21 || case.lent.popped < case.steps.len()),
+        ]),
+        Call::Rewind => lowest(&[
+            (1, bad_reach(case)),
+            (2, case.limits.max_len > 21),
+            (3, case.steps.len() > 65_536),
+            (4, bad_kinds(case)),
+            (5, bad_key(&case.start) || bad_key(&case.popped)),
             (6, case.start.len() > case.limits.max_len),
             (7, case.lent.steps < 21),
         ]),
@@ -98,12 +107,13 @@ fn not_a_tail(case: &Case) -> bool {
     goal.len() >= start.len() || !start.starts_with(goal) || start.len() > case.limits.swap_max
 }
 
-/// The window after a step, none where the step is not allowed.
-fn after(case: &Case, window: &[u8], code: u16) -> Option<Vec<u8>> {
+/// The window after a step, none where the step is not allowed. Items may be more than keys: a step moves them, or
+/// makes one of its key.
+pub fn after<T: Copy + From<u8>>(case: &Case, window: &[T], code: u16) -> Option<Vec<T>> {
     let (kind, operand) = (code / 256, usize::from(code % 256));
     let length = window.len();
-    let grown = |key: u8| -> Option<Vec<u8>> {
-        (length < case.limits.max_len).then(|| std::iter::once(key).chain(window.iter().copied()).collect())
+    let grown = |item: T| -> Option<Vec<T>> {
+        (length < case.limits.max_len).then(|| std::iter::once(item).chain(window.iter().copied()).collect())
     };
     match kind {
         0 => (operand == 0 && length > 0).then(|| window[1..].to_vec()),
@@ -115,40 +125,47 @@ fn after(case: &Case, window: &[u8], code: u16) -> Option<Vec<u8>> {
         }),
         3 | 4 => {
             let of_kind = operand < 64 && (case.tables.kinds[operand] == 0) == (kind == 4);
-            of_kind.then(|| grown(operand as u8)).flatten()
+            of_kind.then(|| grown((operand as u8).into())).flatten()
         }
         _ => None,
     }
 }
 
-/// What steps do from an accepted call's start.
-struct Run {
-    window: Vec<u8>,
+/// What steps do from a start.
+pub struct Run<T> {
+    pub window: Vec<T>,
+    /// The items that Pops dropped, in order.
+    pub popped: Vec<T>,
     /// The greatest length of the windows passed, the start and the end among them.
-    highest: u64,
+    pub highest: u64,
 }
 
 /// Follows the steps, or gives the index of the first that is not allowed.
-fn run(case: &Case, steps: &[u16]) -> Result<Run, usize> {
-    let mut window = case.start.clone();
+pub fn run<T: Copy + From<u8>>(case: &Case, start: &[T], steps: &[u16]) -> Result<Run<T>, usize> {
+    let (mut window, mut popped) = (start.to_vec(), Vec::new());
     let mut highest = window.len();
     for (index, &code) in steps.iter().enumerate() {
-        window = after(case, &window, code).ok_or(index)?;
-        highest = highest.max(window.len());
+        let next = after(case, &window, code).ok_or(index)?;
+        if code == 0 {
+            popped.push(window[0]);
+        }
+        highest = highest.max(next.len());
+        window = next;
     }
-    Ok(Run { window, highest: highest as u64 })
+    Ok(Run { window, popped, highest: highest as u64 })
 }
 
 /// The highest window on a plan's way from the start to the goal, none where the plan does not lead there.
 pub fn highest(case: &Case, plan: &[u16]) -> Option<u64> {
-    run(case, plan).ok().filter(|run| run.window == case.goal).map(|run| run.highest)
+    run(case, &case.start, plan).ok().filter(|run| run.window == case.goal).map(|run| run.highest)
 }
 
-/// Replay's answer and the end window, past the numbers below 8.
+/// Replay's answer, the end window and the popped keys, past the numbers below 8.
 pub fn replay(case: &Case) -> Answer {
-    match run(case, &case.steps) {
-        Ok(Run { window, highest }) => {
-            Answer { window: window.clone(), ..Answer::of(0, [0, window.len() as u64, highest]) }
+    match run(case, &case.start, &case.steps) {
+        Ok(Run { window, popped, highest }) => {
+            let fields = [0, window.len() as u64, highest];
+            Answer { window, popped, ..Answer::of(0, fields) }
         }
         Err(index) => Answer::of(8, [index as u64]),
     }
@@ -166,7 +183,7 @@ pub fn cost(steps: &[u16], prices: &[u32]) -> (u32, u32) {
 /// Marking's answer, past the numbers below 8.
 pub fn mark(case: &Case) -> Answer {
     let [gas, bytes] = case.ceiling;
-    let run = match run(case, &case.steps) {
+    let run = match run(case, &case.start, &case.steps) {
         Ok(run) => run,
         Err(index) => return Answer::of(8, [index as u64]),
     };

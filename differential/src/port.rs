@@ -13,6 +13,7 @@ use crate::{
 pub struct Lists<'a> {
     pub steps: &'a mut [u16],
     pub result: &'a mut [u8],
+    pub popped: &'a mut [u8],
     pub nodes: &'a mut [u64],
     pub heads: &'a mut [u64],
     pub open: &'a mut [u64],
@@ -85,10 +86,12 @@ impl Work {
 /// The lists of one thread, used again and again.
 #[derive(Debug)]
 pub struct Port {
-    /// What the step list and the result list hold before a call.
+    /// What the step list holds before a call; the result list holds its low byte, the list for popped keys its high
+    /// one.
     pattern: u16,
     steps: Guarded<u16>,
     result: Guarded<u8>,
+    popped: Guarded<u8>,
     work: [Work; 3],
 }
 
@@ -105,6 +108,7 @@ impl Default for Port {
             pattern: 0,
             steps: Guarded::new(0xfeed),
             result: Guarded::new(0xa5),
+            popped: Guarded::new(0x5a),
             work: [0x0123_4567_89ab_cdef, 0x0f1e_2d3c_4b5a_6978, 0x7766_5544_3322_1100].map(Work::new),
         }
     }
@@ -118,10 +122,12 @@ impl Port {
 
     /// Makes the lists ready for a case: garbage in the work lists, or what earlier calls of this item left.
     pub fn lend(&mut self, case: &Case, random: &mut Random) {
-        let Lengths { steps, nodes, heads, open } = case.lent;
-        let (steps, result) = if case.call == Call::Replay { (0, steps) } else { (steps, 0) };
+        let Lengths { steps, nodes, heads, open, popped } = case.lent;
+        let writes_window = matches!(case.call, Call::Replay | Call::Rewind);
+        let (steps, result) = if writes_window { (0, steps) } else { (steps, 0) };
         self.steps.resize(steps);
         self.result.resize(result);
+        self.popped.resize(if case.call == Call::Replay { popped } else { 0 });
         self.pattern = random.next() as u16;
         let style = random.below(12);
         for (work, length) in self.work.iter_mut().zip([nodes, heads, open]) {
@@ -129,11 +135,12 @@ impl Port {
         }
     }
 
-    /// Asks through one face, with the work lists as they are and a pattern in the step list and the result list.
+    /// Asks through one face, with the work lists as they are and a pattern in the other lists.
     pub fn ask(&mut self, face: &Face, case: &Case, expect_refusal: bool) -> Outcome {
-        let pattern = self.pattern;
-        self.steps.list().fill(pattern);
-        self.result.list().fill(pattern as u8);
+        let [low, high] = self.pattern.to_le_bytes();
+        self.steps.list().fill(self.pattern);
+        self.result.list().fill(low);
+        self.popped.list().fill(high);
         if expect_refusal {
             self.work.iter_mut().for_each(Work::remember);
         }
@@ -141,46 +148,77 @@ impl Port {
         let lists = Lists {
             steps: self.steps.list(),
             result: self.result.list(),
+            popped: self.popped.list(),
             nodes: nodes.list.list(),
             heads: heads.list.list(),
             open: open.list.list(),
         };
         let mut answer = (face.call)(case, lists);
 
-        let mut faults = Vec::new();
-        let (plan, window) = written(case.call, &answer);
-        let (steps, result) = (self.steps.list(), self.result.list());
-        if plan > steps.len() || window > result.len() {
-            faults.push("more is said to be written than the list has");
-        }
-        let (plan, window) = (plan.min(steps.len()), window.min(result.len()));
-        answer.plan = steps[..plan].to_vec();
-        answer.window = result[..window].to_vec();
-        if steps[plan..].iter().any(|&entry| entry != pattern) {
-            faults.push("the step list is written beyond the plan");
-        }
-        if result[window..].iter().any(|&entry| entry != pattern as u8) {
-            faults.push("the result list is written beyond the window");
-        }
-        if !(self.steps.guarded() && self.result.guarded() && self.work.iter().all(|work| work.list.guarded())) {
-            faults.push("an entry outside a list is written");
+        let mut faults = self.take_written(case, &mut answer);
+        if case.call == Call::Replay && (face.pops)(&case.steps) != pops(&case.steps) {
+            faults.push("the popped keys are counted wrong");
         }
         if expect_refusal && self.work.iter_mut().any(|work| work.list.list() != work.before) {
             faults.push("a refused call changed a work list");
         }
         Outcome { answer, faults }
     }
+
+    /// Puts what is written into an answer, and says what is wrong with the lists.
+    fn take_written(&mut self, case: &Case, answer: &mut Answer) -> Vec<&'static str> {
+        let [low, high] = self.pattern.to_le_bytes();
+        let mut faults = Vec::new();
+        let (plan, window, popped) = written(case, answer);
+        answer.plan = taken(self.steps.list(), plan, self.pattern, STEPS_WRITTEN, &mut faults);
+        answer.window = taken(self.result.list(), window, low, WINDOW_WRITTEN, &mut faults);
+        answer.popped = taken(self.popped.list(), popped, high, POPPED_WRITTEN, &mut faults);
+        let guarded = self.steps.guarded() && self.result.guarded() && self.popped.guarded();
+        if !(guarded && self.work.iter().all(|work| work.list.guarded())) {
+            faults.push("an entry outside a list is written");
+        }
+        faults
+    }
 }
 
-/// How many entries of the step list and of the result list an answer says are written.
-fn written(call: Call, answer: &Answer) -> (usize, usize) {
-    let size = |at: usize| usize::try_from(answer.fields[at]).expect("64 bits");
-    match call {
-        Call::Plan => (size(STEP_COUNT), 0),
-        Call::StarSwap | Call::DeleteTail => (size(0), 0),
-        Call::Replay => (0, size(1)),
-        Call::Mark | Call::Pack => (0, 0),
+const STEPS_WRITTEN: &str = "the step list is written beyond the plan";
+const WINDOW_WRITTEN: &str = "the result list is written beyond the window";
+const POPPED_WRITTEN: &str = "the list for popped keys is written beyond them";
+
+/// The first entries of a list; the others must be as they were.
+fn taken<T: Copy + PartialEq>(
+    list: &[T],
+    count: usize,
+    before: T,
+    beyond: &'static str,
+    faults: &mut Vec<&'static str>,
+) -> Vec<T> {
+    if count > list.len() {
+        faults.push("more is said to be written than the list has");
     }
+    let (first, rest) = list.split_at(count.min(list.len()));
+    if rest.iter().any(|&entry| entry != before) {
+        faults.push(beyond);
+    }
+    first.to_vec()
+}
+
+/// How many entries of the step list and of the result list an answer says are written, and how many popped keys.
+fn written(case: &Case, answer: &Answer) -> (usize, usize, usize) {
+    let size = |at: usize| usize::try_from(answer.fields[at]).expect("64 bits");
+    match case.call {
+        Call::Plan => (size(STEP_COUNT), 0, 0),
+        Call::StarSwap | Call::DeleteTail => (size(0), 0, 0),
+        Call::Replay if answer.refusal == 0 => (0, size(1), pops(&case.steps)),
+        Call::Replay => (0, size(1), 0),
+        Call::Rewind => (0, size(0), 0),
+        Call::Mark | Call::Pack => (0, 0, 0),
+    }
+}
+
+/// How many of the steps are Pops.
+fn pops(steps: &[u16]) -> usize {
+    steps.iter().filter(|&&code| code == 0).count()
 }
 
 /// Styles of garbage.

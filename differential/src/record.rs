@@ -21,7 +21,9 @@ const STEPS: Tag = Tag(8, 2);
 const ANSWER: Tag = Tag(9, 4);
 const PLAN: Tag = Tag(10, 2);
 const WINDOW: Tag = Tag(11, 1);
-const TAGS: [Tag; 11] = [START, GOAL, LIMITS, TABLES, PASSED, LENT, CEILING, STEPS, ANSWER, PLAN, WINDOW];
+const POPPED: Tag = Tag(12, 1);
+const ROOM: Tag = Tag(13, 4);
+const TAGS: [Tag; 13] = [START, GOAL, LIMITS, TABLES, PASSED, LENT, CEILING, STEPS, ANSWER, PLAN, WINDOW, POPPED, ROOM];
 
 /// Bytes before a record's fields, and before a field's entries.
 const HEAD: usize = 8;
@@ -34,12 +36,14 @@ pub struct Record {
     pub answer: Answer,
     /// How many of the answer's fields the record has: a record written before a field was added has fewer.
     pub fields: usize,
+    /// Whether the record has the keys that a replay must write as popped: one written before they came has not.
+    pub has_popped: bool,
 }
 
 impl Record {
     pub fn new(case: Case, answer: Answer) -> Self {
-        let fields = case.call.fields().len();
-        Self { case, answer, fields }
+        let (fields, has_popped) = (case.call.fields().len(), case.call == Call::Replay);
+        Self { case, answer, fields, has_popped }
     }
 }
 
@@ -72,10 +76,14 @@ struct Fields {
 
 impl Fields {
     /// A field, unless it has no entries.
-    fn put<T: Copy + Into<u64>>(&mut self, Tag(tag, width): Tag, entries: &[T]) {
-        if entries.is_empty() {
-            return;
+    fn put<T: Copy + Into<u64>>(&mut self, tag: Tag, entries: &[T]) {
+        if !entries.is_empty() {
+            self.put_all(tag, entries);
         }
+    }
+
+    /// A field, also one without entries.
+    fn put_all<T: Copy + Into<u64>>(&mut self, Tag(tag, width): Tag, entries: &[T]) {
         self.count += 1;
         self.bytes.extend([tag, width]);
         self.bytes.extend(u16::try_from(entries.len()).expect("a count of 16 bits").to_le_bytes());
@@ -98,7 +106,7 @@ impl Fields {
 impl Record {
     /// The record's bytes; its tables are put into the pool.
     pub fn bytes(&self, pool: &mut Pool) -> Vec<u8> {
-        let Self { case, answer, fields: answered } = self;
+        let Self { case, answer, fields: answered, .. } = self;
         let Tables { kinds, prices } = &*case.tables;
         let mut fields = Fields { bytes: Vec::new(), count: 0 };
         fields.put(START, &case.start);
@@ -107,12 +115,14 @@ impl Record {
         fields.put_numbers(TABLES, &[place(&mut pool.prices, prices, PRICES), place(&mut pool.kinds, kinds, KINDS)]);
         let passed = [prices.len() as u64, kinds.len() as u64];
         fields.put(PASSED, if passed == [PRICES as u64, KINDS as u64] { &[] } else { &passed });
-        fields.put_numbers(LENT, &case.lent.numbers());
+        let [lent @ .., _] = case.lent.numbers();
+        fields.put_numbers(LENT, &lent);
         fields.put_numbers(CEILING, &case.ceiling.map(|part| part as usize));
         fields.put(STEPS, &case.steps);
         fields.put(ANSWER, &[&[u64::from(answer.refusal)], &answer.fields[..*answered]].concat());
         fields.put(PLAN, &answer.plan);
         fields.put(WINDOW, &answer.window);
+        self.put_popped(&mut fields);
 
         let size = u32::try_from(HEAD + fields.bytes.len()).expect("a size of 32 bits");
         let mut bytes = size.to_le_bytes().to_vec();
@@ -120,6 +130,21 @@ impl Record {
         bytes.extend(fields.count.to_le_bytes());
         bytes.extend(fields.bytes);
         bytes
+    }
+
+    /// The popped keys that a replay must write, with the places lent for them, or that a stepping back is given.
+    fn put_popped(&self, fields: &mut Fields) {
+        let Self { case, answer, .. } = self;
+        match case.call {
+            Call::Replay if self.has_popped => {
+                fields.put_all(POPPED, &answer.popped);
+                if case.lent.popped != case.steps.len() {
+                    fields.put(ROOM, &[case.lent.popped as u64]);
+                }
+            }
+            Call::Rewind => fields.put(POPPED, &case.popped),
+            _ => {}
+        }
     }
 
     /// Reads a whole record, or says what is wrong with it.
@@ -138,14 +163,11 @@ impl Record {
             kinds: kinds.get(..passed_kinds).ok_or("more kinds are passed than there are")?.to_vec(),
             prices: prices.get(..passed_prices).ok_or("more prices are passed than there are")?.to_vec(),
         };
-        let mut case = Case::new(call, &Arc::new(tables));
-        case.start = fields.bytes(START);
-        case.goal = fields.bytes(GOAL);
-        case.limits = limits(fields.numbers(LIMITS));
-        case.lent = Lengths::of(fields.numbers(LENT));
-        case.ceiling = fields.numbers(CEILING).map(|part| part as u32);
-        case.steps = fields.codes(STEPS);
+        let case = fields.case(call, tables);
         let mut answer = Answer { plan: fields.codes(PLAN), window: fields.bytes(WINDOW), ..Answer::default() };
+        if call == Call::Replay {
+            answer.popped = fields.bytes(POPPED);
+        }
         let numbers = fields.entries(ANSWER);
         let [refusal, answered @ ..] = numbers.as_slice() else {
             return Err("it has no answer".into());
@@ -159,7 +181,8 @@ impl Record {
             ));
         }
         answer.fields.iter_mut().zip(answered).for_each(|(field, number)| *field = *number as u64);
-        Ok(Self { case, answer, fields: answered.len() })
+        let has_popped = call == Call::Replay && fields.has(POPPED);
+        Ok(Self { case, answer, fields: answered.len(), has_popped })
     }
 }
 
@@ -186,6 +209,28 @@ impl<'a> Read<'a> {
             at = end;
         }
         if at == bytes.len() { Ok(Self { fields }) } else { Err("it is longer than its fields".into()) }
+    }
+
+    /// The question.
+    fn case(&self, call: Call, tables: Tables) -> Case {
+        let mut case = Case::new(call, &Arc::new(tables));
+        case.start = self.bytes(START);
+        case.goal = self.bytes(GOAL);
+        case.limits = limits(self.numbers(LIMITS));
+        let [steps, nodes, heads, open] = self.numbers(LENT);
+        case.lent = Lengths { steps, nodes, heads, open, popped: 0 };
+        case.ceiling = self.numbers(CEILING).map(|part| part as u32);
+        case.steps = self.codes(STEPS);
+        match call {
+            Call::Replay => case.lent.popped = self.entries(ROOM).first().copied().unwrap_or(case.steps.len()),
+            Call::Rewind => case.popped = self.bytes(POPPED),
+            _ => {}
+        }
+        case
+    }
+
+    fn has(&self, Tag(tag, _): Tag) -> bool {
+        self.fields.iter().any(|&(other, _)| other == tag)
     }
 
     fn entries(&self, Tag(tag, width): Tag) -> Vec<usize> {

@@ -55,9 +55,9 @@ fn size(case: &Case) -> [u128; 6] {
     let prices_size = if *prices == desk.prices { 0 } else { 1 + runs(prices) };
     let kinds_size = case.tables.kinds.iter().zip(&desk.kinds).filter(|(kind, other)| kind != other).count();
     let price_sum = prices.iter().map(|&price| u128::from(price)).sum::<u128>();
-    let keys: u128 = case.start.iter().chain(&case.goal).map(|&key| u128::from(key)).sum();
+    let keys: u128 = case.start.iter().chain(&case.goal).chain(&case.popped).map(|&key| u128::from(key)).sum();
     [
-        (case.start.len() + case.goal.len() + case.steps.len()) as u128,
+        (case.start.len() + case.goal.len() + case.steps.len() + case.popped.len()) as u128,
         prices_size + kinds_size as u128 + case.tables.kinds.len().abs_diff(64) as u128,
         if prices_size == 0 { 0 } else { price_sum },
         sum(&case.limits.numbers()),
@@ -112,11 +112,17 @@ fn keys(case: &Case, add: &mut Add<'_>) {
             }
         });
     }
-    let present: std::collections::BTreeSet<u8> = case.start.iter().chain(&case.goal).copied().collect();
+    for at in 0..case.popped.len().min(64) {
+        add(&|c| {
+            c.popped.remove(at);
+        });
+    }
+    let all = case.start.iter().chain(&case.goal).chain(&case.popped);
+    let present: std::collections::BTreeSet<u8> = all.copied().collect();
     for key in present {
         for lower in (0..key.min(3)).chain([key / 2, key.saturating_sub(1)]) {
             add(&|c| {
-                let windows = c.start.iter_mut().chain(&mut c.goal);
+                let windows = c.start.iter_mut().chain(&mut c.goal).chain(&mut c.popped);
                 windows.filter(|other| **other == key).for_each(|other| *other = lower);
             });
         }
@@ -129,7 +135,14 @@ fn steps(case: &Case, add: &mut Add<'_>) {
     let mut part = count;
     while part > 0 {
         for from in (0..count).step_by(part).take(64) {
-            add(&|c| drop(c.steps.drain(from..count.min(from + part))));
+            let to = count.min(from + part);
+            add(&|c| drop(c.steps.drain(from..to)));
+            // With the places lent for what they pop, or with the keys popped.
+            add(&|c| {
+                c.lent.popped = c.lent.popped.saturating_sub(to - from);
+                c.steps.drain(from..to);
+            });
+            add(&|c| drop_with_popped(c, from, to));
         }
         part /= 2;
     }
@@ -137,6 +150,15 @@ fn steps(case: &Case, add: &mut Add<'_>) {
         add(&|c| c.steps[at] = 0);
         add(&|c| c.steps[at] = c.steps[at].saturating_sub(1));
     }
+}
+
+/// Drops steps, and of a stepping back the keys that they pop.
+fn drop_with_popped(case: &mut Case, from: usize, to: usize) {
+    let pops = |steps: &[u16]| steps.iter().filter(|&&code| code == 0).count();
+    let first = pops(&case.steps[..from]).min(case.popped.len());
+    let last = pops(&case.steps[..to]).min(case.popped.len());
+    case.popped.drain(first..last);
+    case.steps.drain(from..to);
 }
 
 /// Lower limits, lengths and ceiling.
@@ -151,7 +173,7 @@ fn numbers(case: &Case, add: &mut Add<'_>) {
             });
         }
     }
-    for at in 0..4 {
+    for at in 0..5 {
         for lower in lower(case.lent.numbers()[at]) {
             add(&|c| {
                 let mut numbers = c.lent.numbers();

@@ -3,6 +3,7 @@
 use crate::{
     case::{Answer, CEILING, Call, Case, ENDING, EXPANSIONS, FOUND, HIGHEST, ORIGIN, PLAN_COST, STEP_COUNT},
     command::command,
+    rewinding::{NoStart, start_before},
     shrink::{Shrunk, shrink},
 };
 use std::{fmt, ops::AddAssign};
@@ -54,7 +55,12 @@ pub struct Difference {
 
 pub struct Tally {
     /// By call.
-    refused: [Counts<NUMBERS>; 6],
+    refused: [Counts<NUMBERS>; Call::COUNT],
+    /// Accepted replays that pop keys, and the most keys that one popped.
+    popping: u64,
+    most_popped: usize,
+    /// Why there is no start.
+    no_start: Counts<{ NoStart::COUNT }>,
     marks: Counts<3>,
     endings: Counts<8>,
     origins: Counts<5>,
@@ -74,7 +80,10 @@ pub struct Tally {
 impl Default for Tally {
     fn default() -> Self {
         Self {
-            refused: [Counts::NONE; 6],
+            refused: [Counts::NONE; Call::COUNT],
+            popping: 0,
+            most_popped: 0,
+            no_start: Counts::NONE,
             marks: Counts::NONE,
             endings: Counts::NONE,
             origins: Counts::NONE,
@@ -93,11 +102,18 @@ impl Default for Tally {
 impl Tally {
     pub fn count(&mut self, case: &Case, answer: &Answer) {
         self.refused[case.call as usize].bump(answer.refusal.into());
+        if (case.call, answer.refusal) == (Call::Rewind, 11) {
+            start_before(case).err().into_iter().for_each(|why| self.no_start.bump(why as u64));
+        }
         if answer.refusal != 0 {
             return;
         }
         let fields = &answer.fields;
         match case.call {
+            Call::Replay => {
+                self.popping += u64::from(!answer.popped.is_empty());
+                self.most_popped = self.most_popped.max(answer.popped.len());
+            }
             Call::Mark => self.marks.bump(fields[1]),
             Call::Plan => {
                 self.endings.bump(fields[ENDING]);
@@ -121,6 +137,11 @@ impl Tally {
         if new_item && self.first.len() < KEPT {
             self.first.push(Difference { index, cases: cases.iter().copied().cloned().collect(), text: text() });
         }
+    }
+
+    /// How often a call answered a number, 0 for accepted.
+    pub fn answered(&self, call: Call, number: u32) -> u64 {
+        self.refused[call as usize].0[number as usize]
     }
 
     pub fn accepted(&self) -> u64 {
@@ -155,6 +176,9 @@ impl Tally {
 impl AddAssign for Tally {
     fn add_assign(&mut self, other: Self) {
         self.refused.iter_mut().zip(other.refused).for_each(|(sum, counts)| *sum += counts);
+        self.popping += other.popping;
+        self.most_popped = self.most_popped.max(other.most_popped);
+        self.no_start += other.no_start;
         self.marks += other.marks;
         self.endings += other.endings;
         self.origins += other.origins;
@@ -181,6 +205,14 @@ impl fmt::Display for Tally {
             let mut refused = *counts;
             refused.0[0] = 0;
             writeln!(f, "{:<14} {asked}: accepted {}, refused {refused}", call.name(), counts.0[0])?;
+        }
+        if self.popping != 0 {
+            writeln!(f, "popping        {} replays, at most {} keys", self.popping, self.most_popped)?;
+        }
+        if self.no_start.0.iter().any(|&n| n != 0) {
+            let reasons: Vec<String> =
+                NoStart::WORDS.iter().zip(self.no_start.0).map(|(word, n)| format!("{word} {n}")).collect();
+            writeln!(f, "no start       {}", reasons.join(", "))?;
         }
         if self.marks.0.iter().any(|&n| n != 0) {
             writeln!(f, "marks          {}", self.marks)?;

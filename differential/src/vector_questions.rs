@@ -1,5 +1,7 @@
 //! Which questions stand in the fixed list.
 
+mod stepping_back;
+
 use crate::{
     case::{
         CEILING, Call, Case, ENDING, EXPANSIONS, FOUND, HIGHEST, HIGHEST_REPLAYED, KEY, Limits, ORIGIN, POP, SWAP,
@@ -35,6 +37,7 @@ pub fn all() -> Vec<Record> {
     other_calls(&mut list);
     highest_windows(&mut list);
     highest_planned(&mut list);
+    stepping_back::all(&mut list);
     list.records
 }
 
@@ -131,10 +134,24 @@ impl List {
         self.add(case);
     }
 
-    /// A replay of steps with a result list of 21, and what `change` makes of it.
+    /// A replay of steps with the least lists, and what `change` makes of it. Steps that it changes have their places
+    /// too, unless it changes these.
     fn replay(&mut self, start: &[u8], steps: &[u16], change: impl FnOnce(&mut Case)) {
         let mut case = self.new_case(Call::Replay);
         (case.start, case.steps, case.limits) = (start.to_vec(), steps.to_vec(), reaches(16, 17, 21));
+        case.lent = case.least();
+        change(&mut case);
+        if case.lent.popped == steps.len() {
+            case.lent.popped = case.steps.len();
+        }
+        self.add(case);
+    }
+
+    /// A stepping back with a result list of 21, and what `change` makes of it.
+    fn rewind(&mut self, end: &[u8], steps: &[u16], popped: &[u8], change: impl FnOnce(&mut Case)) {
+        let mut case = self.new_case(Call::Rewind);
+        (case.start, case.steps, case.popped) = (end.to_vec(), steps.to_vec(), popped.to_vec());
+        case.limits = reaches(16, 17, 21);
         change(&mut case);
         self.add(case);
     }
@@ -335,6 +352,7 @@ fn other_calls(list: &mut List) {
         &|r| r.start[0] = 64,
         &|r| r.limits.max_len = 1,
         &|r| r.lent.steps = 20,
+        &|r| r.lent.popped = 1,
         &|r| r.steps = vec![256, 256, 1280],
         &|r| spoil(prices(r), 195, 30_001),
         &|r| prices(r).clear(),

@@ -7,6 +7,7 @@ use crate::{
     compare::Sides,
     draw::Random,
     record::{KINDS, PRICES, Pool, Record, number},
+    rewinding::{NoStart, start_before},
     vector_questions,
 };
 use std::{collections::HashSet, fs};
@@ -29,6 +30,12 @@ fn fits_desk(record: &Record) -> bool {
     entries(record) <= DESK_ENTRIES && record.case.lent.steps <= DESK_STEPS
 }
 
+/// The longest list of steps asked, of popped keys given or of places lent for them.
+fn longest(record: &Record) -> usize {
+    let case = &record.case;
+    case.steps.len().max(case.popped.len()).max(case.lent.popped)
+}
+
 /// The records of the list, each with no more than its call takes and no two alike, and the file's bytes.
 pub fn made() -> (Vec<Record>, Vec<u8>) {
     let mut records = vector_questions::all();
@@ -36,6 +43,7 @@ pub fn made() -> (Vec<Record>, Vec<u8>) {
     records.sort_by_key(|record| (!fits_desk(record), if fits_desk(record) { 0 } else { entries(record) }));
     let (mut pool, mut seen) = (Pool::default(), HashSet::new());
     records.retain(|record| seen.insert(record.bytes(&mut pool)));
+    assert!(records.iter().all(|record| longest(record) <= DESK_STEPS), "steps and popped keys fit the desk's lists");
     let bytes = bytes_of(&records);
     (records, bytes)
 }
@@ -62,10 +70,15 @@ fn bytes_of(records: &[Record]) -> Vec<u8> {
 }
 
 /// The bytes of the records as they were before planner, replay and marking answered the highest window, their last
-/// field.
+/// field, and before replay wrote the popped keys: then there was no stepping back, and no number of places for them.
 pub fn older(mut records: Vec<Record>) -> Vec<u8> {
+    records.retain(|Record { case, .. }| match case.call {
+        Call::Replay => case.lent.popped == case.steps.len(),
+        call => call != Call::Rewind,
+    });
     for record in &mut records {
         record.fields -= usize::from(matches!(record.case.call, Call::Plan | Call::Replay | Call::Mark));
+        record.has_popped = false;
     }
     bytes_of(&records)
 }
@@ -80,7 +93,7 @@ pub fn write(path: &str) -> bool {
 }
 
 fn summary(records: &[Record]) {
-    let mut calls = [0; 6];
+    let mut calls = [0; Call::COUNT];
     let (mut refusals, mut endings, mut origins) = ([0; 18], [0; 8], [0; 5]);
     let (mut zero_prices, mut over) = (0, Vec::new());
     for Record { case, answer, .. } in records {
@@ -95,11 +108,41 @@ fn summary(records: &[Record]) {
         }
         zero_prices += usize::from(case.tables.prices == [0; PRICES]);
     }
-    println!("records {}: planner, replay, marking, packing, star-swap, delete-tail {calls:?}", records.len());
+    let names = Call::ALL.map(Call::name).join(", ");
+    println!("records {}: {names} {calls:?}", records.len());
     println!("refusals from 0 {refusals:?}; endings from 0 {endings:?}; origins from 0 {origins:?}");
     println!("with all prices zero {zero_prices}; plans over 128 steps {over:?}");
     println!("records that fit the desk's lists: {}", records.iter().filter(|record| fits_desk(record)).count());
     highest_windows(records);
+    popped_keys(records);
+}
+
+/// Prints what replays pop and what steppings back answer.
+fn popped_keys(records: &[Record]) {
+    let (mut replays, mut short, mut longer, mut no_start) = ([0; 2], 0, 0, [0; NoStart::COUNT]);
+    let mut rewinds = [0; 18];
+    for Record { case, answer, .. } in records {
+        match case.call {
+            Call::Replay => {
+                short += usize::from(case.lent.popped < case.steps.len());
+                longer += usize::from(case.lent.popped > case.steps.len());
+                if answer.refusal == 0 {
+                    replays[usize::from(!answer.popped.is_empty())] += 1;
+                }
+            }
+            Call::Rewind => {
+                rewinds[answer.refusal as usize] += 1;
+                if answer.refusal == 11 {
+                    start_before(case).err().into_iter().for_each(|why| no_start[why as usize] += 1);
+                }
+            }
+            _ => {}
+        }
+    }
+    println!(
+        "accepted replays without and with popped keys {replays:?}; their list too short {short}, longer {longer}"
+    );
+    println!("steppings back by refusal from 0 {rewinds:?}; no start by {} {no_start:?}", NoStart::WORDS.join(", "));
 }
 
 /// Prints where accepted calls have their highest window.

@@ -14,6 +14,8 @@
 //! # Ok::<(), nimskerf::Refusal>(())
 //! ```
 //!
+//! [`retrace`] walks back through an answer, a step at a time.
+//!
 //! Structs and enums that later versions add to are `non_exhaustive`: a question begins with [`Question::new`], which
 //! gives every field to come a default that keeps the old answers.
 //!
@@ -23,9 +25,11 @@
 pub mod raw;
 pub mod sys;
 mod types;
+mod walk;
 
 pub use raw::{Limits, Lists};
 pub use types::{Allowances, Cost, Ending, Kind, Mark, Origin, PriceList, Reaches, Refusal, Step, Tables};
+pub use walk::{StepBack, WalkBack, retrace, retrace_codes, walk_back, walk_back_codes};
 
 use std::sync::LazyLock;
 
@@ -107,6 +111,8 @@ pub struct Answer {
 pub struct Replayed {
     /// The window that the steps lead to.
     pub window: Vec<u8>,
+    /// The keys that the Pops dropped, the first popped first.
+    pub popped: Vec<u8>,
     /// The greatest length that the window reached, the start included.
     pub highest: usize,
 }
@@ -202,11 +208,29 @@ pub fn replay(question: &Question<'_>, steps: &[Step]) -> Result<Replayed, Refus
 /// Replays step codes, whoever wrote them.
 pub fn replay_codes(question: &Question<'_>, codes: &[u16]) -> Result<Replayed, Refusal> {
     let Question { start, reaches: Reaches { dup_max, swap_max, max_len }, tables, .. } = *question;
+    let (mut result, mut popped) = ([0; MAX_LEN], vec![0; codes.len()]);
+    let replayed = raw::replay(start, codes, dup_max, swap_max, max_len, &tables.kinds, &mut result, &mut popped);
+    if let Some(refusal) = Refusal::from_number(replayed.refusal, replayed.index) {
+        return Err(refusal);
+    }
+    popped.truncate(raw::pops(codes));
+    Ok(Replayed { window: result[..replayed.length].to_vec(), popped, highest: replayed.highest })
+}
+
+/// Steps back: the start from which a replay of the steps ends in `end` with exactly these keys popped, the first
+/// popped first. Takes the question's reaches and kinds.
+pub fn rewind(question: &Question<'_>, end: &[u8], steps: &[Step], popped: &[u8]) -> Result<Vec<u8>, Refusal> {
+    rewind_codes(question, end, &codes(steps), popped)
+}
+
+/// Steps back through step codes, whoever wrote them.
+pub fn rewind_codes(question: &Question<'_>, end: &[u8], codes: &[u16], popped: &[u8]) -> Result<Vec<u8>, Refusal> {
+    let Question { reaches: Reaches { dup_max, swap_max, max_len }, tables, .. } = *question;
     let mut result = [0; MAX_LEN];
-    let replayed = raw::replay(start, codes, dup_max, swap_max, max_len, &tables.kinds, &mut result);
-    match Refusal::from_number(replayed.refusal, replayed.index) {
+    let rewound = raw::rewind(end, codes, popped, dup_max, swap_max, max_len, &tables.kinds, &mut result);
+    match Refusal::from_number(rewound.refusal, 0) {
         Some(refusal) => Err(refusal),
-        None => Ok(Replayed { window: result[..replayed.length].to_vec(), highest: replayed.highest }),
+        None => Ok(result[..rewound.length].to_vec()),
     }
 }
 

@@ -1,6 +1,8 @@
 //! The proved functions on slices and numbers. Safe: a Rust slice is never null, and `&mut` slices overlap nothing.
 
-use crate::sys::{self, NimskerfAnswer, NimskerfBuilt, NimskerfMarked, NimskerfPacked, NimskerfReplayed};
+use crate::sys::{
+    self, NimskerfAnswer, NimskerfBuilt, NimskerfMarked, NimskerfPacked, NimskerfReplayed, NimskerfRewound,
+};
 
 /// The numbers of a question, unchecked.
 #[derive(Clone, Copy, Debug, Default, PartialEq, Eq)]
@@ -60,6 +62,8 @@ pub fn plan(
     }
 }
 
+/// `popped` is at least as long as `steps`; its first [`pops`] entries are written.
+#[allow(clippy::too_many_arguments)]
 pub fn replay(
     start: &[u8],
     steps: &[u16],
@@ -68,14 +72,54 @@ pub fn replay(
     max_len: usize,
     kinds: &[u8],
     result: &mut [u8],
+    popped: &mut [u8],
 ) -> NimskerfReplayed {
-    // SAFETY: every pointer comes from a slice with its own length; `result` overlaps nothing.
+    // SAFETY: every pointer comes from a slice with its own length; `result` and `popped` overlap nothing.
     unsafe {
         sys::nimskerf_proved_replay(
             start.as_ptr(),
             start.len(),
             steps.as_ptr(),
             steps.len(),
+            dup_max,
+            swap_max,
+            max_len,
+            kinds.as_ptr(),
+            kinds.len(),
+            result.as_mut_ptr(),
+            result.len(),
+            popped.as_mut_ptr(),
+            popped.len(),
+        )
+    }
+}
+
+/// How many keys a replay of these steps pops.
+pub fn pops(steps: &[u16]) -> usize {
+    // SAFETY: the pointer comes from a slice with its own length; nothing is written.
+    unsafe { sys::nimskerf_proved_pops(steps.as_ptr(), steps.len()) }
+}
+
+#[allow(clippy::too_many_arguments)]
+pub fn rewind(
+    end: &[u8],
+    steps: &[u16],
+    popped: &[u8],
+    dup_max: usize,
+    swap_max: usize,
+    max_len: usize,
+    kinds: &[u8],
+    result: &mut [u8],
+) -> NimskerfRewound {
+    // SAFETY: every pointer comes from a slice with its own length; `result` overlaps nothing.
+    unsafe {
+        sys::nimskerf_proved_rewind(
+            end.as_ptr(),
+            end.len(),
+            steps.as_ptr(),
+            steps.len(),
+            popped.as_ptr(),
+            popped.len(),
             dup_max,
             swap_max,
             max_len,

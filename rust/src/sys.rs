@@ -74,6 +74,14 @@ pub struct NimskerfReplayed {
     pub highest: usize,
 }
 
+/// Stepping back's answer.
+#[repr(C)]
+#[derive(Clone, Copy, Debug, Default, PartialEq, Eq)]
+pub struct NimskerfRewound {
+    pub refusal: u32,
+    pub length: usize,
+}
+
 /// Marking's answer.
 #[repr(C)]
 #[derive(Clone, Copy, Debug, Default, PartialEq, Eq)]
@@ -112,7 +120,23 @@ unsafe extern "C" {
         steps_len: usize,
         result: *mut u8,
         result_len: usize,
+        popped: *mut u8,
+        popped_len: usize,
     ) -> NimskerfReplayed;
+
+    pub fn nimskerf_pops(steps: *const u16, steps_len: usize) -> usize;
+
+    pub fn nimskerf_rewind(
+        question: *const NimskerfQuestion,
+        end: *const u8,
+        end_len: usize,
+        steps: *const u16,
+        steps_len: usize,
+        popped: *const u8,
+        popped_len: usize,
+        result: *mut u8,
+        result_len: usize,
+    ) -> NimskerfRewound;
 
     pub fn nimskerf_mark(
         question: *const NimskerfQuestion,
@@ -176,7 +200,27 @@ unsafe extern "C" {
         kinds_len: usize,
         result: *mut u8,
         result_len: usize,
+        popped: *mut u8,
+        popped_len: usize,
     ) -> NimskerfReplayed;
+
+    pub fn nimskerf_proved_pops(steps: *const u16, steps_len: usize) -> usize;
+
+    pub fn nimskerf_proved_rewind(
+        end: *const u8,
+        end_len: usize,
+        steps: *const u16,
+        steps_len: usize,
+        popped: *const u8,
+        popped_len: usize,
+        dup_max: usize,
+        swap_max: usize,
+        max_len: usize,
+        kinds: *const u8,
+        kinds_len: usize,
+        result: *mut u8,
+        result_len: usize,
+    ) -> NimskerfRewound;
 
     pub fn nimskerf_proved_mark(
         start: *const u8,

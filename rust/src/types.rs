@@ -186,11 +186,11 @@ pub enum Refusal {
     Reach,
     /// 2: `max_len` over 21.
     Window,
-    /// 3: an allowance over 65,536, or a replay or marking of more than 65,536 steps.
+    /// 3: an allowance over 65,536, or a replay, stepping back or marking of more than 65,536 steps.
     Allowance,
     /// 4: a second kind zero, or a price over 30,000.
     Table,
-    /// 5: a start or goal key of 64 or more.
+    /// 5: a start, goal or end key, or a popped key that is given, of 64 or more.
     Key,
     /// 6: a window too long for the reaches, or for the call.
     Length,
@@ -202,13 +202,15 @@ pub enum Refusal {
     Unroutable,
     /// 10: the goal is not a strictly shorter prefix of the start, or the start is out of reach.
     NotATail,
+    /// 11: no start leads through the steps to the end with these keys popped.
+    NoStart,
 }
 
 impl Refusal {
     /// The refusal of a number, none for 0. `index` counts at 8.
     ///
     /// # Panics
-    /// For a number over 10, which no call gives.
+    /// For a number over 11, which no call gives.
     pub fn from_number(number: u32, index: usize) -> Option<Self> {
         Some(match number {
             0 => return None,
@@ -222,6 +224,7 @@ impl Refusal {
             8 => Refusal::Step(index),
             9 => Refusal::Unroutable,
             10 => Refusal::NotATail,
+            11 => Refusal::NoStart,
             _ => panic!("no refusal has the number {number}"),
         })
     }
@@ -238,6 +241,7 @@ impl Refusal {
             Refusal::Step(_) => 8,
             Refusal::Unroutable => 9,
             Refusal::NotATail => 10,
+            Refusal::NoStart => 11,
         }
     }
 }

@@ -15,9 +15,10 @@ const CAPI: &str = include_str!("../../crates/capi/src/lib.rt");
 const EXPECTED: &str = include_str!("../../tests/calls.txt");
 
 /// The structs that capi's functions return, and what the headers call them.
-const RETURNED: [(&str, &str, &str); 5] = [
+const RETURNED: [(&str, &str, &str); 6] = [
     (include_str!("../../crates/planner/src/lib.rt"), "Answer", "NimskerfAnswer"),
     (include_str!("../../crates/replay/src/lib.rt"), "Replayed", "NimskerfReplayed"),
+    (include_str!("../../crates/rewind/src/lib.rt"), "Rewound", "NimskerfRewound"),
     (include_str!("../../crates/marking/src/lib.rt"), "Marked", "NimskerfMarked"),
     (include_str!("../../crates/window/src/lib.rt"), "Packing", "NimskerfPacked"),
     (include_str!("../../crates/star_swap/src/lib.rt"), "Written", "NimskerfBuilt"),
@@ -142,15 +143,18 @@ fn passed(place: String) -> Vec<String> {
 fn declarations_are_the_headers() {
     assert_eq!(rust_structs(SYS), c_structs(HEADER));
     let mut functions = c_functions(HEADER);
-    assert_eq!(functions.len(), 16);
+    assert_eq!(functions.len(), 18);
     functions.extend(c_functions(PROVED_HEADER));
-    assert_eq!(functions.len(), 22);
+    assert_eq!(functions.len(), 26);
     assert_eq!(rust_functions(SYS, "pub fn ", ';'), functions);
 }
 
 #[test]
 fn the_proved_header_is_capis() {
-    let named = |result: &str| RETURNED.iter().find(|(_, name, _)| *name == result).expect("a struct").2.to_string();
+    let named = |result: &str| match result {
+        "usize" => result.to_string(),
+        _ => RETURNED.iter().find(|(_, name, _)| *name == result).expect("a struct").2.to_string(),
+    };
     let capi: Declarations = rust_functions(CAPI, "pub extern \"C\" fn ", '\n')
         .into_iter()
         .map(|(name, mut list)| {
@@ -284,12 +288,12 @@ fn plans(out: &mut String) {
 fn replay(out: &mut String, name: &str, q: &NimskerfQuestion, codes: &[u16]) {
     let (steps, count) = (codes.as_ptr(), codes.len());
     for through in ["checked", "proved"] {
-        let mut result = [0xabu8; 64];
-        let end = result.as_mut_ptr();
+        let (mut result, mut popped) = ([0xabu8; 64], [0xabu8; 64]);
+        let (end, keys) = (result.as_mut_ptr(), popped.as_mut_ptr());
         // SAFETY: all lists are there and apart.
         let r = unsafe {
             match through {
-                "checked" => nimskerf_replay(q, steps, count, end, 21),
+                "checked" => nimskerf_replay(q, steps, count, end, 21, keys, count + 1),
                 _ => nimskerf_proved_replay(
                     q.start,
                     q.start_len,
@@ -302,12 +306,71 @@ fn replay(out: &mut String, name: &str, q: &NimskerfQuestion, codes: &[u16]) {
                     q.kinds_len,
                     end,
                     21,
+                    keys,
+                    count + 1,
                 ),
             }
         };
+        let pops = if r.refusal == 0 { pops(codes)[usize::from(through == "proved")] } else { 0 };
         write!(out, "replay, {name}, {through}: refusal {} index {} length {}", r.refusal, r.index, r.length).unwrap();
-        writeln!(out, " highest {} result{}", r.highest, written(&result, r.length, 0xab)).unwrap();
+        write!(out, " highest {} result{}", r.highest, written(&result, r.length, 0xab)).unwrap();
+        writeln!(out, " popped{}", written(&popped, pops, 0xab)).unwrap();
     }
+}
+
+/// By the checked function and by the proved one.
+fn pops(codes: &[u16]) -> [usize; 2] {
+    let (steps, count) = (codes.as_ptr(), codes.len());
+    // SAFETY: the list is there.
+    unsafe { [nimskerf_pops(steps, count), nimskerf_proved_pops(steps, count)] }
+}
+
+fn rewind(out: &mut String, name: &str, q: &NimskerfQuestion, codes: &[u16], popped: &[u8], result_len: usize) {
+    let (end, steps, count) = ([5, 0], codes.as_ptr(), codes.len());
+    let (keys, keys_len) = (popped.as_ptr(), popped.len());
+    for through in ["checked", "proved"] {
+        let mut result = [0xabu8; 64];
+        let start = result.as_mut_ptr();
+        // SAFETY: all lists that are read are there, and apart from the one written.
+        let r = unsafe {
+            match through {
+                "checked" => nimskerf_rewind(q, end.as_ptr(), 2, steps, count, keys, keys_len, start, result_len),
+                _ => nimskerf_proved_rewind(
+                    end.as_ptr(),
+                    2,
+                    steps,
+                    count,
+                    keys,
+                    keys_len,
+                    q.dup_max,
+                    q.swap_max,
+                    q.max_len,
+                    q.kinds,
+                    q.kinds_len,
+                    start,
+                    result_len,
+                ),
+            }
+        };
+        write!(out, "rewind, {name}, {through}: refusal {} length {}", r.refusal, r.length).unwrap();
+        writeln!(out, " result{}", written(&result, r.length, 0xab)).unwrap();
+    }
+}
+
+fn steps_back(out: &mut String) {
+    let (codes, popped) = ([514, 0, 257, 0, 0, 1029], [2, 0, 1, 3]);
+    let q = question_of(&FIRST[..3], &GOAL);
+    replay(out, "walk", &q, &codes);
+    let [checked, proved] = pops(&codes[..4]);
+    writeln!(out, "pops: {checked} {proved}").unwrap();
+    // Stepping back looks at neither window of the question.
+    let mut q = NimskerfQuestion { start: std::ptr::null(), start_len: 99, goal: std::ptr::null(), goal_len: 99, ..q };
+    rewind(out, "walk", &q, &codes, &popped[..3], 22);
+    rewind(out, "a key too many", &q, &codes, &popped, 22);
+    rewind(out, "dup_max", &NimskerfQuestion { dup_max: 1, ..q }, &codes, &popped[..3], 22);
+    (q.dup_max, q.swap_max, q.max_len) = (2, 3, 3);
+    rewind(out, "narrow", &q, &codes, &popped[..3], 22);
+    rewind(out, "short", &q, &codes, &popped[..3], 20);
 }
 
 fn mark(out: &mut String, name: &str, q: &NimskerfQuestion, codes: &[u16], ceiling: NimskerfCost) {
@@ -417,7 +480,7 @@ fn codes_and_texts(out: &mut String) {
         }
         type Text = unsafe extern "C" fn(u32) -> *const c_char;
         let texts: [(&str, u32, Text); 4] = [
-            ("refusal_text", 11, nimskerf_refusal_text),
+            ("refusal_text", 12, nimskerf_refusal_text),
             ("origin_text", 4, nimskerf_origin_text),
             ("ending_text", 6, nimskerf_ending_text),
             ("mark_text", 3, nimskerf_mark_text),
@@ -479,6 +542,7 @@ fn layouts(out: &mut String) {
         }
     );
     layout!(out, NimskerfReplayed { refusal, index, length, highest });
+    layout!(out, NimskerfRewound { refusal, length });
     layout!(out, NimskerfMarked { refusal, index, mark, highest });
     layout!(out, NimskerfPacked { refusal, lo, hi });
     layout!(out, NimskerfBuilt { refusal, count });
@@ -489,6 +553,7 @@ fn calls_give_what_they_give_in_c() {
     let mut out = String::new();
     plans(&mut out);
     replays_and_marks(&mut out);
+    steps_back(&mut out);
     packs(&mut out);
     builders(&mut out);
     desk(&mut out);

@@ -164,7 +164,7 @@ fn no_highest_window() {
     // Not allowed after growing, then too many keys for max_len.
     for (max_len, refusal, index) in [(21, 8, 2), (0, 6, 0)] {
         let (start, codes) = ([0], [256, 256, 1280]);
-        let replayed = raw::replay(&start, &codes, 16, 17, max_len, kinds, &mut [0; 21]);
+        let replayed = raw::replay(&start, &codes, 16, 17, max_len, kinds, &mut [0; 21], &mut [0; 3]);
         assert_eq!((replayed.refusal, replayed.index, replayed.highest), (refusal, index, 0));
         let marked = raw::mark(&start, &start, &codes, 16, 17, max_len, kinds, prices, 99, 99);
         assert_eq!((marked.refusal, marked.index, marked.highest), (refusal, index, 0));
@@ -296,7 +296,11 @@ fn codes_of_steps() {
 fn numbers_and_sentences() {
     assert_eq!(Refusal::Key.to_string(), "refused 5: A key is 64 or more.");
     assert_eq!(Refusal::Step(3).to_string(), "refused 8: A step is not allowed. Its index is 3.");
-    for number in 1..=10 {
+    assert_eq!(
+        Refusal::NoStart.to_string(),
+        "refused 11: No start leads through the steps to the end with these keys popped."
+    );
+    for number in 1..=11 {
         let refusal = Refusal::from_number(number, 7).expect("a refusal");
         assert_eq!(refusal.number(), number);
         assert!(refusal.to_string().ends_with('.'), "{refusal}");

@@ -3,13 +3,17 @@
 use marking::Marked;
 use planner::Answer;
 use replay::Replayed;
+use rewind::Rewound;
 use star_swap::Written;
 use window::Packing;
 ghost use mathlib.Core.Path.{_≡_};
 ghost use lib.ListN.{length};
+ghost use Rattle.costs.specs.Table.{countOf};
 ghost use Rattle.window.specs.Packing.{packing};
 ghost use Rattle.replay.specs.Machine.{rules};
 ghost use Rattle.replay.specs.Replay.{replayed};
+ghost use Rattle.rewind.specs.Rewind.{rewound};
+ghost use Rattle.rewind.specs.Led.{SteppedBack};
 ghost use Rattle.marking.specs.Marking.{marked, ceiling};
 ghost use Rattle.star_swap.specs.Refusal.{starSwapped};
 ghost use Rattle.builders.specs.Tail.{deleted};
@@ -66,10 +70,53 @@ pub extern "C" fn nimskerf_proved_replay(
     max_len: usize,
     kinds: &[u8],
     result: &mut [u8],
+    popped: &mut [u8],
 ) -> Replayed
-    ensures { λ r. ⌜ (r, now (result .exit)) ≡ replayed (rules «dup_max» «swap_max» «max_len» (now (kinds .entry))) (now (start .entry)) (now (steps .entry)) (now (result .entry)) ⌝ }
+    ensures { λ r. ⌜ (r, now (result .exit), now (popped .exit)) ≡ replayed (rules «dup_max» «swap_max» «max_len» (now (kinds .entry))) (now (start .entry)) (now (steps .entry)) (now (result .entry)) (now (popped .entry)) ⌝ }
 {
-    replay::replay(start, steps, dup_max, swap_max, max_len, kinds, result)
+    replay::replay(
+        start,
+        steps,
+        dup_max,
+        swap_max,
+        max_len,
+        kinds,
+        result,
+        popped,
+    )
+}
+
+#[no_mangle]
+pub extern "C" fn nimskerf_proved_rewind(
+    end: &[u8],
+    steps: &[u16],
+    popped: &[u8],
+    dup_max: usize,
+    swap_max: usize,
+    max_len: usize,
+    kinds: &[u8],
+    result: &mut [u8],
+) -> Rewound
+    ensures { λ r. ⌜ (r, now (result .exit)) ≡ rewound (rules «dup_max» «swap_max» «max_len» (now (kinds .entry))) (now (end .entry)) (now (steps .entry)) (now (popped .entry)) (now (result .entry)) ⌝ }
+    ensures { λ r. ⌜ SteppedBack (rules «dup_max» «swap_max» «max_len» (now (kinds .entry))) (now (end .entry)) (now (steps .entry)) (now (popped .entry)) (now (result .entry)) (r, now (result .exit)) ⌝ }
+{
+    rewind::rewind(
+        end,
+        steps,
+        popped,
+        dup_max,
+        swap_max,
+        max_len,
+        kinds,
+        result,
+    )
+}
+
+#[no_mangle]
+pub extern "C" fn nimskerf_proved_pops(steps: &[u16]) -> usize
+    ensures { λ r. ⌜ r ≡ countOf 0 (now (steps .entry)) ⌝ }
+{
+    replay::pops(steps)
 }
 
 #[no_mangle]

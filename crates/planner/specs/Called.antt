@@ -1,19 +1,19 @@
 -- What holds of every answer of the planner as its caller gets it: of the fields and of the first `step_count` entries of the step list.
 use Prim.Native.Nat.{ℕ, zero, suc, _+_, _*_, _≤_, _<_, max}
 use mathlib.Core.Bool.{Bool, true, false}
-use mathlib.Core.List.{List, [], _∷_, _++_}
+use mathlib.Core.List.{List, [], _∷_}
 use mathlib.Core.Option.{Option, none, some, Option·some-injective}
 use mathlib.Core.Path.{_≡_, refl, ap, sym, _∙_, subst}
 use native.Mathlib.Omega.{arith}
 use borrow.Author.Tests.{ne-eqb}
 use lib.Dec.{T, eqb}
-use lib.ListN.{length, take, drop}
+use lib.ListN.{length, take}
 use Rattle.costs.specs.Choice.{_if_otherwise_}
 use Rattle.costs.specs.Cost.{noMore}
 use Rattle.costs.specs.Price.{costForSteps}
 use Rattle.costs.specs.declared.Cost.{Cost}
-use Rattle.replay.specs.Machine.{ends, ranOn, highest}
-use Rattle.replay.specs.Replay.{replayed}
+use Rattle.replay.specs.Machine.{ends, ranOn, highest, poppedOn}
+use Rattle.replay.specs.Replay.{over, replayed}
 use Rattle.replay.specs.Highest.{highest-fits, highest-none}
 use Rattle.marking.specs.Marking.{marked}
 use Rattle.algebra.specs.GasBytes.{gas-bytes}
@@ -78,8 +78,9 @@ pub record SoundAnswer (a : Asked) (r : Answer) (xs : List ℕ) : Type 0 where
   pub cost-is : planCost r ≡ costForSteps (a .prices) (take (r .«step_count») xs)
   pub within : noMore (planCost r) (passMark r) ≡ true
   pub few : r .«step_count» ≤ max 128 (a .allowance .expansions)
-  pub replayed-as : (result : List ℕ) → 21 ≤ length result →
-      replayed (a .rules) (a .start) (take (r .«step_count») xs) result ≡ (record { refusal = 0; index = 0; length = length (a .goal); highest = r .highest }, a .goal ++ drop (length (a .goal)) result)
+  pub replayed-as : (result popped : List ℕ) → 21 ≤ length result → r .«step_count» ≤ length popped →
+      replayed (a .rules) (a .start) (take (r .«step_count») xs) result popped ≡
+      (record { refusal = 0; index = 0; length = length (a .goal); highest = r .highest }, over (a .goal) result, over (poppedOn (a .rules) (take (r .«step_count») xs) (a .start)) popped)
   pub marked-0 : marked (a .rules) (a .prices) (a .start) (a .goal) (take (r .«step_count») xs) (passMark r) ≡ record { refusal = 0; index = 0; mark = 0; highest = r .highest }
   pub still : r .ending ≡ 0 → r .highest ≡ length (a .start)
 
@@ -103,7 +104,7 @@ plan-fields a l steps h o e x p i f z =
       cost-is = rw t (s .cost-is);
       within = le-more (p .cost) (p .ceiling) (plan-within a l ok p f);
       few = s .few;
-      replayed-as = λ result room. rw t (replayed-own a l h p f result room);
+      replayed-as = λ result popped room takes. rw t (replayed-own a l h p f result popped room takes);
       marked-0 = rw t (marked-own a l h p f);
       still = λ k. ap (λ (c : List ℕ). highest (a .rules) c (a .start)) (z k) ∙ highest-none (a .rules) (a .start);
     })

@@ -1,20 +1,20 @@
 -- A plan that is given, replayed and marked with its own ceiling: it ends at the goal, is marked 0, and its highest window is told alike.
 use Prim.Native.Nat.{ℕ, _≤_, max}
 use mathlib.Core.Bool.{Bool, true, false, _||_}
-use mathlib.Core.List.{List, _++_}
+use mathlib.Core.List.{List}
 use mathlib.Core.Option.{some}
 use mathlib.Core.Path.{_≡_, refl, ap, sym, _∙_}
 use native.Mathlib.Omega.{arith}
 use borrow.Author.Tests.{le-ltb}
 use lib.Dec.{eqb, ltb}
-use lib.ListN.{length, drop}
+use lib.ListN.{length}
 use Rattle.costs.specs.Choice.{_if_otherwise_}
 use Rattle.costs.specs.Cost.{noMore}
 use Rattle.costs.specs.Price.{costForSteps}
 use Rattle.costs.specs.Table.{anyOver, kindsFault, pricesFault}
 use Rattle.costs.specs.declared.Cost.{Cost}
 use Rattle.replay.specs.Machine.{Rules, Outcome, ends, ranOn, highest}
-use Rattle.replay.specs.Replay.{reachFault, replayed}
+use Rattle.replay.specs.Replay.{reachFault, replayed, replayedTo}
 use Rattle.replay.specs.Laws.{replayed-to}
 use Rattle.marking.specs.Marking.{sameKeys, markRefusal, markOutcome, answerOf, marked}
 use Rattle.marking.specs.Laws.{same-refl, outcome-runs, replays}
@@ -49,14 +49,14 @@ mark-accepted a l ok n h =
 few-steps : (a : Asked) (l : Lent) (ok : Accepted a l) (p : Found Cost ℕ) → Sound a p → length (p .steps) ≤ 65536
 few-steps a l ok p s = omega (arith, s .few, ok .expansions)
 
--- what replay answers, with any result list that it takes
-pub replayed-own : (a : Asked) (l : Lent) → planRefusal a l ≡ 0 → (p : Found Cost ℕ) → answered a .plan ≡ some p → (result : List ℕ) → 21 ≤ length result →
-    replayed (a .rules) (a .start) (p .steps) result ≡ (record { refusal = 0; index = 0; length = length (a .goal); highest = highest (a .rules) (p .steps) (a .start) }, a .goal ++ drop (length (a .goal)) result)
-replayed-own a l h p f result room =
+-- what replay answers, with any lists that it takes
+pub replayed-own : (a : Asked) (l : Lent) → planRefusal a l ≡ 0 → (p : Found Cost ℕ) → answered a .plan ≡ some p → (result popped : List ℕ) → 21 ≤ length result → length (p .steps) ≤ length popped →
+    replayed (a .rules) (a .start) (p .steps) result popped ≡ replayedTo (a .rules) (a .start) (p .steps) (a .goal) result popped
+replayed-own a l h p f result popped room takes =
     let ok = accepted a l h in
     let s = plan-sound a l ok p f in
-    replayed-to (a .rules) (a .start) (p .steps) (a .goal) result
-    (replays (a .rules) (a .prices) (a .start) (a .goal) (length (p .steps)) (length result) room (mark-accepted a l ok (length (p .steps)) (few-steps a l ok p s)))
+    replayed-to (a .rules) (a .start) (p .steps) (a .goal) result popped
+    (replays (a .rules) (a .prices) (a .start) (a .goal) (length (p .steps)) (length result) (length popped) room takes (mark-accepted a l ok (length (p .steps)) (few-steps a l ok p s)))
     (s .replays)
 
 pub marked-own : (a : Asked) (l : Lent) → planRefusal a l ≡ 0 → (p : Found Cost ℕ) → answered a .plan ≡ some p →

@@ -5,3 +5,5 @@ pub mod Held
 pub mod Worked
 pub mod Steps
 pub mod Highest
+pub mod Popped
+pub mod Writing

@@ -1,14 +1,14 @@
 -- What star-swap's answer is worth, and the starred questions of document 01.
 use Prim.Native.Nat.{ℕ, zero, suc, _+_, _<_, _≤_}
 use mathlib.Core.Bool.{false}
-use mathlib.Core.List.{List, [], _∷_, _++_}
+use mathlib.Core.List.{List, [], _∷_}
 use mathlib.Core.Path.{_≡_, refl, ap, _∙_}
 use native.Mathlib.Omega.{arith}
 use borrow.Author.Tests.{eq-eqb}
-use lib.ListN.{length, take, drop, replicate, length-map}
+use lib.ListN.{length, take, replicate, length-map}
 use Rattle.costs.specs.Choice.{_if_otherwise_}
-use Rattle.replay.specs.Machine.{Rules, ranOn, ends, highest}
-use Rattle.replay.specs.Replay.{replayRefusal, replayed}
+use Rattle.replay.specs.Machine.{Rules, ranOn, ends}
+use Rattle.replay.specs.Replay.{replayRefusal, replayed, replayedTo}
 use Rattle.replay.specs.Laws.{replayed-to}
 use Rattle.star_swap.specs.Count.{cnt}
 use Rattle.star_swap.specs.Star.{at, pick, trailLoop, trail, lastOf, circuits, misplaced, starSwaps, code, codes}
@@ -71,9 +71,9 @@ module _ (q : Rules) (start goal : List ℕ) where
       ap (λ (l : List ℕ). ranOn q 0 l start) (r .1) ∙ star-swap-reaches (length old) (r .0)
 
   -- and as replay answers it, for rules that replay accepts
-  pub star-swap-replayed : (places : ℕ) (result : List ℕ) → swapRefusal (q .swapMax) start goal places ≡ 0 → replayRefusal q start (length (codes (starSwaps start goal))) (length result) ≡ 0 →
-      replayed q start (codes (starSwaps start goal)) result ≡ (record { refusal = 0; index = 0; length = length goal; highest = highest q (codes (starSwaps start goal)) start }, goal ++ drop (length goal) result)
-  star-swap-replayed places result h a = replayed-to q start (codes (starSwaps start goal)) goal result a (star-swap-reaches places h)
+  pub star-swap-replayed : (places : ℕ) (result popped : List ℕ) → swapRefusal (q .swapMax) start goal places ≡ 0 → replayRefusal q start (length (codes (starSwaps start goal))) (length result) (length popped) ≡ 0 →
+      replayed q start (codes (starSwaps start goal)) result popped ≡ replayedTo q start (codes (starSwaps start goal)) goal result popped
+  star-swap-replayed places result popped h a = replayed-to q start (codes (starSwaps start goal)) goal result popped a (star-swap-reaches places h)
 
   -- where star-swap gives 9, the machine of that reach carries out no list of swaps from the start to the goal
   pub nine-never : (places : ℕ) → swapRefusal (q .swapMax) start goal places ≡ 9 → (S : List ℕ) → ((d : ℕ) → 0 < cnt d S → d < 256) → ranOn q 0 (codes S) start ≡ ends goal → ⊥

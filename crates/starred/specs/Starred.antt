@@ -100,7 +100,7 @@ pub record Starred : Type 0 where
   -- a key too great for packing
   pub packing-64 : packing 6 21 (64 ∷ []) ≡ record { refusal = 5; lo = 0; hi = 0 }
   -- a Pop that replay does not allow
-  pub pop-on-empty : replayed (rules 16 17 21 kinds) [] (0 ∷ []) sheet ≡ (record { refusal = 8; index = 0; length = 0; highest = 0 }, sheet)
+  pub pop-on-empty : replayed (rules 16 17 21 kinds) [] (0 ∷ []) sheet sheet ≡ (record { refusal = 8; index = 0; length = 0; highest = 0 }, sheet, sheet)
 
 pub starred : Starred
 unfolding packing packRefusal replayOutcome replayRefusal reachFault kindsFault pricesFault ranOn passes highest allows after room immediate value decoded plus noMore pick trailLoop trail lastOf circuits misplaced starSwaps unroutable builderRefusal starSwapped does routed firstAt dropAt within trimmed made copied added addedTimes filled finished dupAndStar bury pops uncovered deleteTail begins notTail deleted tailPlan sameFrom commonSuffix withPops withKeys flushCost inHand planOf searched planned begin allowanceFault overLength shortLists planRefusal answered plannedFor

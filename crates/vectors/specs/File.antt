@@ -1,4 +1,5 @@
 -- A list of answers, as docs/vectors-format.md describes it: all numbers are little endian, and what lies past an end reads as 0.
+use mathlib.Core.Bool.{Bool}
 use mathlib.Core.List.{List, [], _∷_}
 use mathlib.Core.Path.{_≡_}
 use Prim.Native.Nat.{ℕ, zero, suc, _+_, _*_, _%_, _≤_, _<_}
@@ -31,9 +32,13 @@ entriesAt rec at = take (entriesSize rec at) (drop (at + 4) rec)
 abbrev pub fieldOf : List ℕ → ℕ → List ℕ
 fieldOf rec tag = entriesAt rec (placeOf (shortAt rec 6) rec tag 8)
 
+-- Whether the record has the field with a tag, be it empty.
+abbrev pub hasField : List ℕ → ℕ → Bool
+hasField rec tag = eqb (getD rec (placeOf (shortAt rec 6) rec tag 8) 0) tag
+
 -- The bytes of an entry of the field with a tag, 0 for a tag that is not known.
 abbrev pub widthOf : ℕ → ℕ
-widthOf tag = getD (0 ∷ 1 ∷ 1 ∷ 4 ∷ 2 ∷ 2 ∷ 4 ∷ 4 ∷ 2 ∷ 4 ∷ 2 ∷ 1 ∷ []) tag 0
+widthOf tag = getD (0 ∷ 1 ∷ 1 ∷ 4 ∷ 2 ∷ 2 ∷ 4 ∷ 4 ∷ 2 ∷ 4 ∷ 2 ∷ 1 ∷ 1 ∷ 4 ∷ []) tag 0
 
 -- The field at a place is known and stands behind the tag before it.
 pub record FieldKnown (rec : List ℕ) (at last : ℕ) : Type 0 where
@@ -62,6 +67,10 @@ priceAt bytes rec i = numberAt (take 784 (drop (shortAt bytes 8 + 784 * shortAt 
 abbrev pub passedAt : List ℕ → ℕ → ℕ → ℕ
 passedAt counts at all = all if ltb (length counts) 4 otherwise shortAt counts at
 
+-- How many places are lent for popped keys: by the field of places, or one for each step where the record lacks it.
+abbrev pub placesOf : List ℕ → ℕ → ℕ
+placesOf lent steps = steps if ltb (length lent) 4 otherwise numberAt lent 0
+
 -- What a step list holds before a call: no step has such a code.
 abbrev pub patternAt : ℕ → ℕ
 patternAt i = 40000 + i % 20000
@@ -88,13 +97,14 @@ pub record AsSteps (codes : List ℕ) (n : ℕ) (steps : List ℕ) : Type 0 wher
   pub room : n ≤ length steps
   pub each : (k : ℕ) → k < length steps → getD steps k 0 ≡ wantedStep codes n k
 
--- What a result list must hold: the end window, and what stood there before behind it.
+-- What a list of keys must hold: the keys of a field, and what stood there before behind them.
 abbrev pub wantedKey : List ℕ → ℕ → ℕ
-wantedKey window i = getD window i 0 if ltb i (length window) otherwise noKey i
+wantedKey keys i = getD keys i 0 if ltb i (length keys) otherwise noKey i
 
--- The result list holds the end window, and the rest is untouched.
-abbrev pub AsWindow : List ℕ → List ℕ → Type 0
-AsWindow window result = (k : ℕ) → k < length result → getD result k 0 ≡ wantedKey window k
+-- The list holds the keys, and the rest is untouched.
+pub record AsKeys (keys list : List ℕ) : Type 0 where
+  pub room : length keys ≤ length list
+  pub each : (k : ℕ) → k < length list → getD list k 0 ≡ wantedKey keys k
 
 -- While the records are read: the place is in the file, there are few enough records to count, and no more of them differ than are read.
 pub record Reading (size n at records wrong : ℕ) : Type 0 where

@@ -10,7 +10,7 @@ ghost use mathlib.Core.Bool.{true};
 ghost use mathlib.Core.List.{[], _∷_};
 ghost use Prim.Native.Nat.{_≤_, _/_};
 ghost use lib.ListN.{length};
-ghost use Rattle.vectors.specs.File.{wantedStep, wantedKey, AsFields, AsSteps, AsWindow};
+ghost use Rattle.vectors.specs.File.{wantedStep, wantedKey, AsFields, AsSteps, AsKeys};
 
 // Whether the refusal and every field that the record has are answered. More fields than the call has are refused.
 pub fn same_fields(answers: &[u8], got: &[usize]) -> bool
@@ -59,24 +59,23 @@ pub fn same_steps(codes: &[u8], steps: &[u16]) -> bool
     true
 }
 
-// What a result list must hold at a place.
-fn wanted_key(window: &[u8], i: usize) -> u8
-    ensures { λ r. ⌜ r ≡ wantedKey (now (window .entry)) i ⌝ }
+// What a list of keys must hold at a place.
+fn wanted_key(keys: &[u8], i: usize) -> u8
+    ensures { λ r. ⌜ r ≡ wantedKey (now (keys .entry)) i ⌝ }
 {
-    if i < window.len() {
-        byte(window, i)
-    } else {
-        201
-    }
+    if i < keys.len() { byte(keys, i) } else { 201 }
 }
 
-// Whether a result list holds the end window, and the rest is untouched.
-pub fn same_result(window: &[u8], result: &[u8]) -> bool
-    ensures { λ r. ⌜ (r ≡ true → AsWindow (now (window .entry)) (now (result .entry))) ⌝ }
+// Whether a list holds the keys, and the rest is untouched.
+pub fn same_keys(keys: &[u8], list: &[u8]) -> bool
+    ensures { λ r. ⌜ (r ≡ true → AsKeys (now (keys .entry)) (now (list .entry))) ⌝ }
 {
+    if list.len() < keys.len() {
+        return false;
+    }
     let mut i: usize = 0;
-    while i < result.len() {
-        if result[i] != wanted_key(window, i) {
+    while i < list.len() {
+        if list[i] != wanted_key(keys, i) {
             return false;
         }
         i += 1;

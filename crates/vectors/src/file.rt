@@ -3,7 +3,7 @@ ghost use mathlib.Core.Path.{_≡_};
 ghost use mathlib.Core.Bool.{true};
 ghost use Prim.Native.Nat.{_+_, _*_, _-_, _≤_, _<_};
 ghost use lib.ListN.{length, getD, take, drop};
-ghost use Rattle.vectors.specs.File.{numberAt, shortAt, codeAt, entriesSize, placeOf, fieldOf, passedAt, widthOf, FieldKnown, AllKnown};
+ghost use Rattle.vectors.specs.File.{numberAt, shortAt, codeAt, entriesSize, placeOf, fieldOf, hasField, passedAt, placesOf, widthOf, FieldKnown, AllKnown};
 
 // The most work list entries and the longest step list or result list that a record may lend.
 pub const ENTRIES: usize = 20050;
@@ -32,6 +32,10 @@ pub const ANSWER: u8 = 9;
 pub const PLAN: u8 = 10;
 
 pub const WINDOW: u8 = 11;
+
+pub const POPPED: u8 = 12;
+
+pub const PLACES: u8 = 13;
 
 fn wide(b: u8) -> u32
     ensures { λ r. ⌜ r ≡ b ⌝ }
@@ -154,6 +158,13 @@ pub fn field(rec: &[u8], tag: u8) -> &[u8]
     part(rec, at + 4, entries_size(rec, at))
 }
 
+// Whether the record has the field with a tag, be it empty.
+pub fn has(rec: &[u8], tag: u8) -> bool
+    ensures { λ r. ⌜ r ≡ hasField (now (rec .entry)) tag ⌝ }
+{
+    byte(rec, place(rec, tag)) == tag
+}
+
 // The reaches, the greatest length and the allowances.
 pub struct Limits {
     pub dup_max: usize,
@@ -187,6 +198,17 @@ pub fn passed(counts: &[u8], at: usize, all: usize) -> usize
         all
     } else {
         short(counts, at)
+    }
+}
+
+// How many places are lent for popped keys: by the field of places, or one for each step where the record lacks it.
+pub fn places(lent: &[u8], steps: usize) -> usize
+    ensures { λ r. ⌜ r ≡ placesOf (now (lent .entry)) steps ⌝ }
+{
+    if lent.len() < 4 {
+        steps
+    } else {
+        count(lent, 0)
     }
 }
 
@@ -251,7 +273,7 @@ pub fn records_at(bytes: &[u8]) -> usize
 fn width_of(tag: u8) -> u8
     ensures { λ r. ⌜ r ≡ widthOf tag ⌝ }
 {
-    let widths: [u8; 12] = [0, 1, 1, 4, 2, 2, 4, 4, 2, 4, 2, 1];
+    let widths: [u8; 14] = [0, 1, 1, 4, 2, 2, 4, 4, 2, 4, 2, 1, 1, 4];
     byte(&widths, tag as usize)
 }
 
@@ -306,7 +328,7 @@ fn fits_passed(counts: &[u8]) -> bool {
 
 // Whether a record's call and tables are there.
 fn is_there(bytes: &[u8], rec: &[u8]) -> bool {
-    if 5 < short(rec, 4) {
+    if 6 < short(rec, 4) {
         return false;
     }
     if !fits_passed(field(rec, PASSED)) {
@@ -332,6 +354,9 @@ fn roomy(rec: &[u8]) -> bool {
         return false;
     }
     if 4 * ENTRIES < count(lent, 12) {
+        return false;
+    }
+    if STEPS < count(field(rec, PLACES), 0) {
         return false;
     }
     field(rec, ASKED).len() <= 2 * STEPS

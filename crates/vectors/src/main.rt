@@ -6,7 +6,7 @@ mod lists;
 use compare::same_answer;
 use compare::same_count;
 use compare::same_fields;
-use compare::same_result;
+use compare::same_keys;
 use compare::same_steps;
 use file::count;
 use file::field;
@@ -105,8 +105,22 @@ fn check_plan(
     )
 }
 
-// Whether replay answers as the record says and writes the record's end window alone.
-fn replay_as(rec: &[u8], kinds: &[u8], steps: &[u16], result: &mut [u8]) -> bool {
+// Whether the popped keys of the record are written, and they alone. A record from before there were any says nothing of them.
+fn same_popped(rec: &[u8], popped: &[u8]) -> bool {
+    if file::has(rec, file::POPPED) {
+        return same_keys(field(rec, file::POPPED), popped);
+    }
+    true
+}
+
+// Whether replay answers as the record says and writes the record's end window and popped keys alone.
+fn replay_as(
+    rec: &[u8],
+    kinds: &[u8],
+    steps: &[u16],
+    result: &mut [u8],
+    popped: &mut [u8],
+) -> bool {
     let q = file::limits_of(field(rec, file::LIMITS));
     let r = replay::replay(
         field(rec, file::START),
@@ -116,23 +130,67 @@ fn replay_as(rec: &[u8], kinds: &[u8], steps: &[u16], result: &mut [u8]) -> bool
         q.max_len,
         kinds,
         result,
+        popped,
     );
     let got = [r.refusal as usize, r.index, r.length, r.highest];
-    if same_fields(field(rec, file::ANSWER), &got) {
-        return same_result(field(rec, file::WINDOW), result);
+    if !same_fields(field(rec, file::ANSWER), &got) {
+        return false;
     }
-    false
+    if !same_keys(field(rec, file::WINDOW), result) {
+        return false;
+    }
+    same_popped(rec, popped)
 }
 
-fn fresh_replay_as(rec: &[u8], kinds: &[u8], steps: &[u16], result: &mut [u8]) -> bool {
+fn fresh_replay_as(
+    rec: &[u8],
+    kinds: &[u8],
+    steps: &[u16],
+    result: &mut [u8],
+    popped: &mut [u8],
+) -> bool {
     fill_result(result);
-    replay_as(rec, kinds, steps, result)
+    fill_result(popped);
+    replay_as(rec, kinds, steps, result, popped)
 }
 
 fn check_replay(rec: &[u8], kinds: &[u8], steps: &[u16]) -> bool {
     let mut room = lists::result_room();
+    let mut keys = lists::result_room();
     let n = cut8(count(field(rec, file::LENT), 0), &room);
-    fresh_replay_as(rec, kinds, steps, &mut room[..n])
+    let p = cut8(file::places(field(rec, file::PLACES), steps.len()), &keys);
+    fresh_replay_as(rec, kinds, steps, &mut room[..n], &mut keys[..p])
+}
+
+// Whether stepping back from the record's end window answers as the record says and writes the record's start alone.
+fn rewind_as(rec: &[u8], kinds: &[u8], steps: &[u16], result: &mut [u8]) -> bool {
+    let q = file::limits_of(field(rec, file::LIMITS));
+    let r = rewind::rewind(
+        field(rec, file::START),
+        steps,
+        field(rec, file::POPPED),
+        q.dup_max,
+        q.swap_max,
+        q.max_len,
+        kinds,
+        result,
+    );
+    let got = [r.refusal as usize, r.length];
+    if same_fields(field(rec, file::ANSWER), &got) {
+        return same_keys(field(rec, file::WINDOW), result);
+    }
+    false
+}
+
+fn fresh_rewind_as(rec: &[u8], kinds: &[u8], steps: &[u16], result: &mut [u8]) -> bool {
+    fill_result(result);
+    rewind_as(rec, kinds, steps, result)
+}
+
+fn check_rewind(rec: &[u8], kinds: &[u8], steps: &[u16]) -> bool {
+    let mut room = lists::result_room();
+    let n = cut8(count(field(rec, file::LENT), 0), &room);
+    fresh_rewind_as(rec, kinds, steps, &mut room[..n])
 }
 
 fn check_mark(rec: &[u8], kinds: &[u8], prices: &[u32], steps: &[u16]) -> bool {
@@ -210,29 +268,35 @@ fn check_built(rec: &[u8], star: bool, steps: &mut [u16]) -> bool {
     built_as(rec, star, &mut steps[..n])
 }
 
-// Replay, or else marking.
-fn asked_as(rec: &[u8], again: bool, kinds: &[u8], prices: &[u32], steps: &mut [u16]) -> bool {
+// Replay, stepping back, or else marking.
+fn asked_as(rec: &[u8], call: usize, kinds: &[u8], prices: &[u32], steps: &mut [u16]) -> bool {
     lists::load_steps(field(rec, file::ASKED), steps);
-    if again {
+    if call == 1 {
         return check_replay(rec, kinds, steps);
+    }
+    if call == 6 {
+        return check_rewind(rec, kinds, steps);
     }
     check_mark(rec, kinds, prices, steps)
 }
 
-fn check_asked(rec: &[u8], again: bool, kinds: &[u8], prices: &[u32], steps: &mut [u16]) -> bool {
+fn check_asked(rec: &[u8], call: usize, kinds: &[u8], prices: &[u32], steps: &mut [u16]) -> bool {
     let n = cut16(field(rec, file::ASKED).len() / 2, steps);
-    asked_as(rec, again, kinds, prices, &mut steps[..n])
+    asked_as(rec, call, kinds, prices, &mut steps[..n])
 }
 
 // Every call but the planner's.
 fn check_other(rec: &[u8], call: usize, kinds: &[u8], prices: &[u32], steps: &mut [u16]) -> bool {
-    if call < 3 {
-        return check_asked(rec, call == 1, kinds, prices, steps);
-    }
     if call == 3 {
         return check_pack(rec);
     }
-    check_built(rec, call == 4, steps)
+    if call == 4 {
+        return check_built(rec, true, steps);
+    }
+    if call == 5 {
+        return check_built(rec, false, steps);
+    }
+    check_asked(rec, call, kinds, prices, steps)
 }
 
 // Whether the call of a record answers as the record says.

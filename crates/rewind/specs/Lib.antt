@@ -1,0 +1,12 @@
+pub mod Walk
+pub mod Rewind
+pub mod Led
+pub mod Held
+pub mod Laws
+pub mod Code
+pub mod Inverse
+pub mod Theorems
+pub mod Back
+pub mod Round
+pub mod Parts
+pub mod Worked
