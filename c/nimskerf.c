@@ -102,7 +102,7 @@ NimskerfAnswer nimskerf_plan(const NimskerfQuestion *question, const NimskerfLis
     return nimskerf_proved_plan(
         l[START].at, l[START].len,
         l[GOAL].at, l[GOAL].len,
-        q->dup_max, q->swap_max, q->max_len,
+        q->dup_max, q->swap_max, q->max_len, q->beneath,
         q->max_expansions, q->states_without, q->states_with,
         l[KINDS].at, l[KINDS].len,
         l[PRICES].at, l[PRICES].len,
@@ -131,7 +131,7 @@ NimskerfReplayed nimskerf_replay(
     return nimskerf_proved_replay(
         l[START].at, l[START].len,
         l[STEPS].at, l[STEPS].len,
-        q->dup_max, q->swap_max, q->max_len,
+        q->dup_max, q->swap_max, q->max_len, q->beneath,
         l[KINDS].at, l[KINDS].len,
         l[RESULT].at, l[RESULT].len,
         l[POPPED].at, l[POPPED].len);
@@ -164,7 +164,7 @@ NimskerfRewound nimskerf_rewind(
         l[END].at, l[END].len,
         l[STEPS].at, l[STEPS].len,
         l[POPPED].at, l[POPPED].len,
-        q->dup_max, q->swap_max, q->max_len,
+        q->dup_max, q->swap_max, q->max_len, q->beneath,
         l[KINDS].at, l[KINDS].len,
         l[RESULT].at, l[RESULT].len);
 }
@@ -184,7 +184,7 @@ NimskerfMarked nimskerf_mark(
         start.at, start.len,
         goal.at, goal.len,
         answer.at, answer.len,
-        q->dup_max, q->swap_max, q->max_len,
+        q->dup_max, q->swap_max, q->max_len, q->beneath,
         kinds.at, kinds.len,
         prices.at, prices.len,
         ceiling.gas, ceiling.bytes);

@@ -34,7 +34,8 @@ NimskerfQuestion nimskerf_question(void)
         .max_expansions = NIMSKERF_DEFAULT_EXPANSIONS,
         .states_without = NIMSKERF_DEFAULT_STATES, .states_with = NIMSKERF_DEFAULT_STATES,
         .kinds = DESK_KINDS, .kinds_len = NIMSKERF_KINDS_LEN,
-        .prices = DESK_PRICES, .prices_len = NIMSKERF_PRICES_LEN};
+        .prices = DESK_PRICES, .prices_len = NIMSKERF_PRICES_LEN,
+        .beneath = 0};
 }
 
 uint16_t nimskerf_step(uint32_t kind, uint32_t operand)
@@ -82,6 +83,7 @@ const char *nimskerf_refusal_text(uint32_t refusal)
         "No Swaps within reach turn start into goal.",
         "Goal is not a strictly shorter prefix of start, or start is longer than swap_max.",
         "No start leads through the steps to the end with these keys popped.",
+        "The stack is too tall: the items beneath and the window are over 1,024.",
         "No refusal has this number."};
     return TEXT_OF(TEXTS, refusal);
 }

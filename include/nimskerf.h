@@ -29,12 +29,13 @@
 extern "C" {
 #endif
 
-#define NIMSKERF_VERSION "0.3.0"
+#define NIMSKERF_VERSION "0.4.0"
 
 /* Limits of a question. */
 #define NIMSKERF_DUP_MAX 16          /* The greatest dup_max. */
 #define NIMSKERF_SWAP_MAX 17         /* The greatest swap_max. */
 #define NIMSKERF_MAX_LEN 21          /* The greatest max_len. */
+#define NIMSKERF_STACK_LEN 1024      /* The most items of a stack: those beneath the window and those in it. */
 #define NIMSKERF_MAX_ALLOWANCE 65536 /* The greatest allowance. */
 #define NIMSKERF_MAX_STEPS 65536     /* The most steps of a replay, stepping back or marking. */
 #define NIMSKERF_MAX_PRICE 30000     /* The greatest price. */
@@ -77,8 +78,8 @@ enum {
     NIMSKERF_NO_STEP = 65535 /* A code that is no step. */
 };
 
-/* Refusals. The lowest number that applies is given. Beside a number every other field is zero (but the index at 8),
- * and no list has changed. */
+/* Refusals. Of those that apply the first is given, in this order: 1 to 5, 12, 6 to 11. Beside a number every other
+ * field is zero (but the index at 8), and no list has changed. */
 enum {
     NIMSKERF_REFUSAL_NONE = 0,        /* No number refuses the call. */
     NIMSKERF_REFUSAL_REACH = 1,       /* dup_max is over 16 or swap_max is over 17. */
@@ -89,9 +90,9 @@ enum {
                                          not 196 numbers, or a price is over 30,000. */
     NIMSKERF_REFUSAL_KEY = 5,         /* A start or goal key is 64 or more. Stepping back: an end key or any of the
                                          popped keys is. */
-    NIMSKERF_REFUSAL_LENGTH = 6,      /* Planner: start or goal is longer than swap_max or max_len. Replay, marking and
-                                         stepping back (its end): longer than max_len. Packing, star-swap and
-                                         delete-tail: longer than 21. */
+    NIMSKERF_REFUSAL_LENGTH = 6,      /* Planner: start or goal is longer than swap_max or than the smaller of max_len
+                                         and 1,024 less beneath. Replay, marking and stepping back (its end): longer
+                                         than max_len. Packing, star-swap and delete-tail: longer than 21. */
     NIMSKERF_REFUSAL_SHORT = 7,       /* Planner: a work list has fewer entries than the larger state allowance plus 50,
                                          or the step list is below the larger of 128 and max_expansions. Builders: the
                                          step list is below 128. Replay and stepping back: the result list is below 21.
@@ -101,8 +102,12 @@ enum {
                                          or deeper. */
     NIMSKERF_REFUSAL_NOT_A_TAIL = 10, /* Delete-tail: goal is not a strictly shorter prefix of start, or start is longer
                                          than swap_max. */
-    NIMSKERF_REFUSAL_NO_START = 11    /* Stepping back: no start that replay accepts leads through the steps to the end
+    NIMSKERF_REFUSAL_NO_START = 11,   /* Stepping back: no start that replay accepts leads through the steps to the end
                                          with exactly these keys popped. */
+    NIMSKERF_REFUSAL_STACK = 12       /* Tested after 5 and before 6. Planner, replay and marking: beneath and the
+                                         start's length together are over 1,024. Stepping back: beneath and the end's
+                                         length are. With nothing beneath, a window of over 1,024 keys has this number,
+                                         6 before version 0.4. */
 };
 
 /* Where a plan comes from. */
@@ -153,6 +158,7 @@ typedef struct {
     const uint32_t *prices; /* 196 numbers, each at most 30,000: pairs gas, bytes of pop, Dup 0 to 15, Swap 0 to 16
                                (pair 0 unused but checked), pushing or loading key 0 to 63. */
     size_t prices_len;
+    size_t beneath; /* Items of the stack beneath the window; the stack never has more than 1,024 in all. */
 } NimskerfQuestion;
 
 /* The lists lent to a planning. What the work lists nodes, heads and open hold before changes no answer; what they hold
@@ -217,8 +223,9 @@ typedef struct {
     size_t count;     /* How many entries of the step list are the plan. */
 } NimskerfBuilt;
 
-/* A question with empty windows, the greatest reaches and max_len, the allowances NIMSKERF_DEFAULT_... and the exam
- * desk's tables: pop 2/1, Dup 3/1, Swap 3/1, keys 0 to 31 values 6/3, key 32 zero 2/1, others immediates 3/2. */
+/* A question with empty windows, nothing beneath, the greatest reaches and max_len, the allowances NIMSKERF_DEFAULT_...
+ * and the exam desk's tables: pop 2/1, Dup 3/1, Swap 3/1, keys 0 to 31 values 6/3, key 32 zero 2/1, others immediates
+ * 3/2. */
 NimskerfQuestion nimskerf_question(void);
 
 /* Plans from start to goal. */
@@ -226,7 +233,7 @@ NimskerfAnswer nimskerf_plan(const NimskerfQuestion *question, const NimskerfLis
 
 /* Replays steps from start. Writes the end window, top first, over the first places of result, and the keys that were
  * popped, the first popped first, over the first nimskerf_pops(steps, steps_len) places of popped; the rest of both is
- * untouched. Takes start, dup_max, swap_max, max_len and kinds. */
+ * untouched. Takes start, dup_max, swap_max, max_len, beneath and kinds. */
 NimskerfReplayed nimskerf_replay(
     const NimskerfQuestion *question,
     const uint16_t *steps, size_t steps_len,
@@ -238,7 +245,7 @@ size_t nimskerf_pops(const uint16_t *steps, size_t steps_len);
 
 /* Steps back from end through steps. Writes the one start from which a replay of the steps ends there with exactly
  * these keys popped, the first popped first, over the first places of result; the rest is untouched. Takes dup_max,
- * swap_max, max_len and kinds. */
+ * swap_max, max_len, beneath and kinds. */
 NimskerfRewound nimskerf_rewind(
     const NimskerfQuestion *question,
     const uint8_t *end, size_t end_len,

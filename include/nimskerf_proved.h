@@ -16,7 +16,7 @@ extern "C" {
 NimskerfAnswer nimskerf_proved_plan(
     const uint8_t *start, size_t start_len,
     const uint8_t *goal, size_t goal_len,
-    size_t dup_max, size_t swap_max, size_t max_len,
+    size_t dup_max, size_t swap_max, size_t max_len, size_t beneath,
     size_t max_expansions, size_t states_without, size_t states_with,
     const uint8_t *kinds, size_t kinds_len,
     const uint32_t *prices, size_t prices_len,
@@ -28,7 +28,7 @@ NimskerfAnswer nimskerf_proved_plan(
 NimskerfReplayed nimskerf_proved_replay(
     const uint8_t *start, size_t start_len,
     const uint16_t *steps, size_t steps_len,
-    size_t dup_max, size_t swap_max, size_t max_len,
+    size_t dup_max, size_t swap_max, size_t max_len, size_t beneath,
     const uint8_t *kinds, size_t kinds_len,
     uint8_t *result, size_t result_len,
     uint8_t *popped, size_t popped_len);
@@ -39,7 +39,7 @@ NimskerfRewound nimskerf_proved_rewind(
     const uint8_t *end, size_t end_len,
     const uint16_t *steps, size_t steps_len,
     const uint8_t *popped, size_t popped_len,
-    size_t dup_max, size_t swap_max, size_t max_len,
+    size_t dup_max, size_t swap_max, size_t max_len, size_t beneath,
     const uint8_t *kinds, size_t kinds_len,
     uint8_t *result, size_t result_len);
 
@@ -47,7 +47,7 @@ NimskerfMarked nimskerf_proved_mark(
     const uint8_t *start, size_t start_len,
     const uint8_t *goal, size_t goal_len,
     const uint16_t *steps, size_t steps_len,
-    size_t dup_max, size_t swap_max, size_t max_len,
+    size_t dup_max, size_t swap_max, size_t max_len, size_t beneath,
     const uint8_t *kinds, size_t kinds_len,
     const uint32_t *prices, size_t prices_len,
     uint32_t ceiling_gas, uint32_t ceiling_bytes);

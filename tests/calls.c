@@ -1,6 +1,7 @@
 /* Calls every function of both headers with distinct values in every place and prints what comes back, a line each;
- * then the layout of every struct, then every constant, then the refusals that popped keys and stepping back brought. C
- * and C++ must print tests/calls.txt, and so must Rust (rust/tests/declarations.rs) up to the constants. */
+ * then the layout of every struct, then every constant, then the refusals that popped keys, stepping back and items
+ * beneath brought. C and C++ must print tests/calls.txt, and so must Rust (rust/tests/declarations.rs) up to the
+ * constants. */
 #include "nimskerf.h"
 #include "nimskerf_proved.h"
 
@@ -101,9 +102,9 @@ static void plan(const char *name, const NimskerfQuestion *q)
     print_answer(
         name, "proved",
         nimskerf_proved_plan(
-            q->start, q->start_len, q->goal, q->goal_len, q->dup_max, q->swap_max, q->max_len, q->max_expansions,
-            q->states_without, q->states_with, q->kinds, q->kinds_len, q->prices, q->prices_len, l.steps, l.steps_len,
-            l.nodes, l.nodes_len, l.heads, l.heads_len, l.open, l.open_len));
+            q->start, q->start_len, q->goal, q->goal_len, q->dup_max, q->swap_max, q->max_len, q->beneath,
+            q->max_expansions, q->states_without, q->states_with, q->kinds, q->kinds_len, q->prices, q->prices_len,
+            l.steps, l.steps_len, l.nodes, l.nodes_len, l.heads, l.heads_len, l.open, l.open_len));
 }
 
 static void plans(void)
@@ -147,6 +148,13 @@ static void plans(void)
     q.states_without = 400;
     q.states_with = 300;
     plan("climbing", &q);
+    q.beneath = 1018;
+    plan("climbing to the stack's end", &q);
+    q.beneath = 1019;
+    plan("no room to climb", &q);
+    q.beneath = 1020;
+    plan("stack", &q);
+    q.beneath = 0;
     q.goal = FIRST;
     plan("equal", &q);
 }
@@ -177,8 +185,8 @@ static void replay_into(
     print_replayed(name, "checked", r, nimskerf_pops(codes, count));
     fill();
     r = nimskerf_proved_replay(
-        q->start, q->start_len, codes, count, q->dup_max, q->swap_max, q->max_len, q->kinds, q->kinds_len, result,
-        result_len, popped, popped_len);
+        q->start, q->start_len, codes, count, q->dup_max, q->swap_max, q->max_len, q->beneath, q->kinds, q->kinds_len,
+        result, result_len, popped, popped_len);
     print_replayed(name, "proved", r, nimskerf_proved_pops(codes, count));
 }
 
@@ -216,7 +224,7 @@ static void rewind_from(const char *name, const NimskerfQuestion *q, const Back 
         name, "proved",
         nimskerf_proved_rewind(
             b->end, b->end_len, b->codes, b->count, b->popped, b->popped_len, q->dup_max, q->swap_max, q->max_len,
-            q->kinds, q->kinds_len, result, b->result_len));
+            q->beneath, q->kinds, q->kinds_len, result, b->result_len));
 }
 
 static void print_marked(const char *name, const char *through, NimskerfMarked m)
@@ -231,8 +239,8 @@ static void mark(const char *name, const NimskerfQuestion *q, const uint16_t *co
     print_marked(
         name, "proved",
         nimskerf_proved_mark(
-            q->start, q->start_len, q->goal, q->goal_len, codes, count, q->dup_max, q->swap_max, q->max_len, q->kinds,
-            q->kinds_len, q->prices, q->prices_len, ceiling.gas, ceiling.bytes));
+            q->start, q->start_len, q->goal, q->goal_len, codes, count, q->dup_max, q->swap_max, q->max_len, q->beneath,
+            q->kinds, q->kinds_len, q->prices, q->prices_len, ceiling.gas, ceiling.bytes));
 }
 
 static void replays_and_marks(void)
@@ -258,6 +266,16 @@ static void replays_and_marks(void)
     q.max_len = 5;
     replay("narrow", &q, codes, 6);
     mark("narrow", &q, codes, 6, ceiling);
+    q.max_len = 6;
+    q.beneath = 1019;
+    replay("beneath", &q, codes, 6);
+    mark("beneath", &q, codes, 6, ceiling);
+    q.beneath = 1020;
+    replay("full", &q, codes, 6);
+    mark("full", &q, codes, 6, ceiling);
+    q.beneath = 1023;
+    replay("stack", &q, codes, 6);
+    mark("stack", &q, codes, 6, ceiling);
 }
 
 /* From 0 1 2 by swap 2, pop, dup 1, pop, pop, load 5 to 5 0. */
@@ -284,6 +302,14 @@ static void steps_back(void)
     rewind_from("narrow", &q, &b);
     b.result_len = 20;
     rewind_from("short", &q, &b);
+    b.result_len = 22;
+    q.max_len = 4;
+    q.beneath = 1021;
+    rewind_from("beneath", &q, &b);
+    q.beneath = 1022;
+    rewind_from("full", &q, &b);
+    q.beneath = 1023;
+    rewind_from("stack", &q, &b);
 }
 
 static void print_packed(const char *through, NimskerfPacked p)
@@ -325,9 +351,9 @@ static void desk(void)
     NimskerfQuestion q = nimskerf_question();
     printf(
         "question: start %zu goal %zu dup_max %zu swap_max %zu max_len %zu max_expansions %zu states_without %zu "
-        "states_with %zu kinds %zu prices %zu\n",
+        "states_with %zu kinds %zu prices %zu beneath %zu\n",
         q.start_len, q.goal_len, q.dup_max, q.swap_max, q.max_len, q.max_expansions, q.states_without, q.states_with,
-        q.kinds_len, q.prices_len);
+        q.kinds_len, q.prices_len, q.beneath);
     printf("question, kinds:");
     for (size_t i = 0; i < q.kinds_len; i++)
         printf(" %u", (unsigned)q.kinds[i]);
@@ -346,7 +372,7 @@ static void codes_and_texts(void)
     for (unsigned code = 0; code <= 1280; code += 256)
         printf("step_word %u: %s\n", code, nimskerf_step_word((uint16_t)code));
     printf("step_word 1: %s\n", nimskerf_step_word(1));
-    for (uint32_t n = 0; n <= 12; n++)
+    for (uint32_t n = 0; n <= 13; n++)
         printf("refusal_text %" PRIu32 ": %s\n", n, nimskerf_refusal_text(n));
     for (uint32_t n = 0; n <= 4; n++)
         printf("origin_text %" PRIu32 ": %s\n", n, nimskerf_origin_text(n));
@@ -380,6 +406,7 @@ static void layouts(void)
     PLACE(NimskerfQuestion, kinds_len);
     PLACE(NimskerfQuestion, prices);
     PLACE(NimskerfQuestion, prices_len);
+    PLACE(NimskerfQuestion, beneath);
     SIZE(NimskerfLists);
     PLACE(NimskerfLists, steps);
     PLACE(NimskerfLists, steps_len);
@@ -430,6 +457,7 @@ static void constants(void)
     CONSTANT(NIMSKERF_DUP_MAX);
     CONSTANT(NIMSKERF_SWAP_MAX);
     CONSTANT(NIMSKERF_MAX_LEN);
+    CONSTANT(NIMSKERF_STACK_LEN);
     CONSTANT(NIMSKERF_MAX_ALLOWANCE);
     CONSTANT(NIMSKERF_MAX_STEPS);
     CONSTANT(NIMSKERF_MAX_PRICE);
@@ -469,6 +497,7 @@ static void constants(void)
     CONSTANT(NIMSKERF_REFUSAL_UNROUTABLE);
     CONSTANT(NIMSKERF_REFUSAL_NOT_A_TAIL);
     CONSTANT(NIMSKERF_REFUSAL_NO_START);
+    CONSTANT(NIMSKERF_REFUSAL_STACK);
     CONSTANT(NIMSKERF_ORIGIN_NONE);
     CONSTANT(NIMSKERF_ORIGIN_DELETE_TAIL);
     CONSTANT(NIMSKERF_ORIGIN_DUP_AND_STAR);
@@ -505,16 +534,18 @@ static void short_lists(void)
     replay_into("not allowed after two Pops", &q, WALK + 3, 4, 21, 4);
 }
 
-/* All refusals of a stepping back at once, then without the lowest each time. */
+static const uint16_t MANY[NIMSKERF_MAX_STEPS + 1] = {0};
+
+/* All refusals of a stepping back at once, then without the first each time. */
 static void refusals_back(void)
 {
-    static const uint16_t many[NIMSKERF_MAX_STEPS + 1] = {0};
     static const uint8_t wrong[64] = {5, 0, 64}, wrong_popped[64] = {2, 0, 1, 64};
     NimskerfQuestion q = question_of(FIRST, 3, GOAL, 3);
-    Back b = {wrong, 3, many, NIMSKERF_MAX_STEPS + 1, wrong_popped, 4, 20};
+    Back b = {wrong, 3, MANY, NIMSKERF_MAX_STEPS + 1, wrong_popped, 4, 20};
     q.swap_max = 18;
     q.max_len = 22;
     q.kinds_len = 63;
+    q.beneath = 1022;
     rewind_from("all", &q, &b);
     q.swap_max = 17;
     rewind_from("all but 1", &q, &b);
@@ -530,8 +561,10 @@ static void refusals_back(void)
     rewind_from("a popped key past the Pops", &q, &b);
     b.popped_len = 3;
     rewind_from("all but 1 to 5", &q, &b);
+    q.beneath = 1021;
+    rewind_from("all but 1 to 5, 12", &q, &b);
     b.end_len = 2;
-    rewind_from("all but 1 to 6", &q, &b);
+    rewind_from("all but 1 to 6, 12", &q, &b);
     b.result_len = 21;
     rewind_from("11 alone", &q, &b);
     q.max_len = 3;
@@ -623,6 +656,136 @@ static void no_start_of_some(void)
     rewind_from("no steps", &q, &b);
 }
 
+static void forth(const char *name, const NimskerfQuestion *q, const uint16_t *codes, size_t count, size_t result_len)
+{
+    NimskerfCost ceiling = {9, 9};
+    plan(name, q);
+    replay_into(name, q, codes, count, result_len, 64);
+    mark(name, q, codes, count, ceiling);
+}
+
+/* All refusals of planner, replay and marking at once, then without the first each time. */
+static void refusals_forth(void)
+{
+    static const uint8_t wrong[64] = {0, 1, 64};
+    NimskerfQuestion q = question_of(wrong, 3, FIRST, 3);
+    q.swap_max = 18;
+    q.max_len = 22;
+    q.max_expansions = EXPANSIONS + 1;
+    q.states_without = 10;
+    q.states_with = NIMSKERF_MAX_ALLOWANCE + 1;
+    q.kinds_len = 63;
+    q.beneath = 1022;
+    forth("all", &q, MANY, NIMSKERF_MAX_STEPS + 1, 20);
+    q.swap_max = 17;
+    forth("all but 1", &q, MANY, NIMSKERF_MAX_STEPS + 1, 20);
+    q.max_len = 2;
+    forth("all but 1, 2", &q, MANY, NIMSKERF_MAX_STEPS + 1, 20);
+    q.states_with = 10;
+    forth("all but 1 to 3", &q, WALK + 1, 5, 20);
+    q.kinds_len = 64;
+    forth("all but 1 to 4", &q, WALK + 1, 5, 20);
+    q.start = FIRST;
+    forth("all but 1 to 5", &q, WALK + 1, 5, 20);
+    q.beneath = 1021;
+    forth("all but 1 to 5, 12", &q, WALK + 1, 5, 20);
+    q.start_len = q.goal_len = 2;
+    forth("all but 1 to 6, 12", &q, WALK + 1, 5, 20);
+    q.max_expansions = EXPANSIONS;
+    forth("8 alone", &q, WALK + 1, 5, 21);
+    forth("none", &q, WALK + 3, 3, 21);
+}
+
+/* Key 33, then the keys 0 to 31 again and again. */
+static uint8_t tower[1 + NIMSKERF_STACK_LEN + 1];
+static const uint16_t PUSH_POP[] = {801, 0, 801, 801};
+
+/* Windows of so many keys over so many items. */
+static const struct {
+    size_t len, beneath, max_len;
+} STACKS[] = {
+    {1024, 0, 21}, {1025, 0, 21}, {20, 1003, 21}, {21, 1003, 21}, {19, 1004, 21}, {20, 1004, 21},
+    {21, 1004, 21}, {16, 1007, 21}, {16, 1008, 21}, {3, 1020, 21}, {4, 1020, 21}, {5, 1020, 21},
+    {3, 1020, 3}, {0, 1023, 21}, {1, 1023, 21}, {2, 1023, 21}, {0, 1024, 21}, {1, 1024, 21},
+    {0, 1025, 21}, {0, (size_t)1 << 32, 21}, {0, SIZE_MAX, 21}, {1, SIZE_MAX, 21},
+};
+
+/* From each of these windows push 33; back from it over a Pop of 33. */
+static void stacks(void)
+{
+    NimskerfCost ceiling = {3, 2};
+    for (size_t i = 0; i < sizeof STACKS / sizeof *STACKS; i++) {
+        size_t len = STACKS[i].len;
+        NimskerfQuestion q = question_of(tower + 1, len, tower, len + 1);
+        Back b = {tower + 1, len, PUSH_POP + 1, 1, tower, 1, 21};
+        char name[80];
+        snprintf(name, sizeof name, "%zu over %zu, max_len %zu", len, STACKS[i].beneath, STACKS[i].max_len);
+        q.beneath = STACKS[i].beneath;
+        q.max_len = STACKS[i].max_len;
+        q.max_expansions = 0;
+        q.states_without = q.states_with = 10;
+        plan(name, &q);
+        replay(name, &q, PUSH_POP, 1);
+        mark(name, &q, PUSH_POP, 1, ceiling);
+        rewind_from(name, &q, &b);
+    }
+}
+
+/* 1,023 items beneath, then 1,024, under empty windows. */
+static void empty_windows(void)
+{
+    NimskerfQuestion q = question_of(FIRST, 0, GOAL, 0);
+    NimskerfCost ceiling = {0, 0};
+    Back b = {FIRST, 0, PUSH_POP, 2, tower, 1, 21};
+    q.max_expansions = q.states_without = q.states_with = 10;
+    q.beneath = 1023;
+    plan("1023", &q);
+    replay("1023, one key", &q, PUSH_POP, 3);
+    replay("1023, two keys", &q, PUSH_POP, 4);
+    mark("1023, two keys", &q, PUSH_POP, 4, ceiling);
+    rewind_from("1023, one key", &q, &b);
+    q.beneath = 1024;
+    plan("1024", &q);
+    replay("1024, one key", &q, PUSH_POP, 1);
+    replay("1024", &q, PUSH_POP, 0);
+    mark("1024", &q, PUSH_POP, 0, ceiling);
+    rewind_from("1024, one key", &q, &b);
+    b.count = b.popped_len = 0;
+    rewind_from("1024", &q, &b);
+}
+
+/* A full stack, 1,022 items beneath two keys: what still goes. */
+static void full_stack(void)
+{
+    /* swap 1, pop, dup 0, pop, load 5, swap 1, then one more. */
+    static uint16_t codes[] = {513, 0, 256, 0, 1029, 513, 256};
+    static const uint16_t more[] = {256, 801, 1029};
+    static const char *const names[] = {"1022, then dup 0", "1022, then push 33", "1022, then load 5"};
+    static const uint8_t goal[64] = {0, 1, 0}, doubled[64] = {0, 0};
+    NimskerfQuestion q = question_of(FIRST, 2, goal, 3);
+    NimskerfCost ceiling = {9, 9};
+    Back b = {doubled, 2, codes + 2, 1, tower, 0, 21};
+    q.max_expansions = q.states_without = q.states_with = 10;
+    q.beneath = 1022;
+    plan("1022", &q);
+    mark("1022", &q, codes, 0, ceiling);
+    replay("1022", &q, codes, 6);
+    for (size_t i = 0; i < 3; i++) {
+        codes[6] = more[i];
+        replay(names[i], &q, codes, 7);
+    }
+    rewind_from("1022, dup 0", &q, &b);
+    b.codes = PUSH_POP;
+    b.count = 2;
+    b.popped_len = 1;
+    rewind_from("1022, push 33, pop 33", &q, &b);
+    b.codes = PUSH_POP + 1;
+    b.end = tower;
+    rewind_from("1022, pop 33, push 33", &q, &b);
+    b.end_len = 3;
+    rewind_from("1022, three keys", &q, &b);
+}
+
 int main(void)
 {
     for (size_t i = 0; i < 64; i++)
@@ -630,6 +793,8 @@ int main(void)
     kinds[2] = NIMSKERF_KIND_ZERO;
     for (uint32_t i = 0; i < NIMSKERF_PRICES_LEN; i++)
         prices[i] = 2 + i * 7 % 13;
+    for (size_t i = 0; i < sizeof tower; i++)
+        tower[i] = i == 0 ? 33 : (uint8_t)((i - 1) % 32);
     plans();
     replays_and_marks();
     steps_back();
@@ -643,5 +808,9 @@ int main(void)
     refusals_back();
     no_starts();
     no_start_of_some();
+    refusals_forth();
+    stacks();
+    empty_windows();
+    full_stack();
     return 0;
 }

@@ -127,7 +127,7 @@ typedef struct {
     size_t goal_len;  /* For a call that is accepted. */
 } Function;
 
-#define TABLES (BIT(1) | BIT(2) | BIT(3) | BIT(4) | BIT(5) | BIT(6))
+#define TABLES (BIT(1) | BIT(2) | BIT(3) | BIT(4) | BIT(5) | BIT(12) | BIT(6))
 #define BUILDER (BIT(1) | BIT(5) | BIT(6) | BIT(7))
 
 static const Function FUNCTIONS[] = {
@@ -142,6 +142,9 @@ static const Function FUNCTIONS[] = {
     {"star_swap", star_swap, BIT(START) | BIT(GOAL) | BIT(STEPS), BIT(STEPS), BUILDER | BIT(9), 3},
     {"delete_tail", delete_tail, BIT(START) | BIT(GOAL) | BIT(STEPS), BIT(STEPS), BUILDER | BIT(10), 2},
 };
+
+/* The numbers in the order in which they are tested. */
+static const uint32_t TURNS[] = {1, 2, 3, 4, 5, 12, 6, 7, 8, 9, 10, 11};
 
 static const size_t LENGTHS[LISTS] = {3, 3, 64, 196, 2, 3, 1, 21, 2, 128, 0, 0, 0};
 
@@ -183,7 +186,7 @@ static Call accepted(const Function *f)
     return c;
 }
 
-/* Gives a call a fault of this number, 1 to 7, that has nothing to do with pointers. */
+/* Gives a call a fault of this number, 1 to 7 or 12, that has nothing to do with pointers. */
 static void spoil(const Function *f, Call *c, uint32_t number)
 {
     int window = f->takes & BIT(END) ? END : START;
@@ -202,6 +205,7 @@ static void spoil(const Function *f, Call *c, uint32_t number)
         memset(memory[window] + ROOM / 2, 1, NIMSKERF_MAX_LEN + 1);
         c->lists[window].len = NIMSKERF_MAX_LEN + 1;
         break;
+    case 12: c->numbers.beneath = SIZE_MAX; break;
     default: c->lists[RESULT].len--; break;
     }
 }
@@ -242,17 +246,23 @@ static Call with(const Function *f, int list, unsigned char *at, size_t len)
     return c;
 }
 
-/* With this list in this place the call is refused by this number, or by a lower one that applies as well. */
+/* With this list in this place the call is refused by this number, or by an earlier one that applies as well. A stack
+ * that is too tall changes nothing where 12 comes later. */
 static bool refused_in_turn(const Function *f, int list, unsigned char *at, size_t len, uint32_t number)
 {
     Call c = with(f, list, at, len);
     bool holds = refused(f, &c, number);
-    for (uint32_t lower = 1; lower < number; lower++) {
+    for (const uint32_t *earlier = TURNS; *earlier != number; earlier++) {
         c = with(f, list, at, len);
-        if (f->refuses & BIT(lower)) {
-            spoil(f, &c, lower);
-            holds = refused(f, &c, lower) && holds;
+        if (f->refuses & BIT(*earlier)) {
+            spoil(f, &c, *earlier);
+            holds = refused(f, &c, *earlier) && holds;
         }
+    }
+    if (number <= 5) {
+        c = with(f, list, at, len);
+        spoil(f, &c, 12);
+        holds = refused(f, &c, number) && holds;
     }
     return holds;
 }
@@ -329,6 +339,14 @@ static void endless(const Function *f, int written)
                refused_in_turn(f, written, c.lists[written].at, SIZE_MAX / WIDTHS[written] + 1, 7));
 }
 
+/* A stack that is too tall: packing and the builders do not look at it. */
+static void too_tall(const Function *f)
+{
+    Call c = accepted(f);
+    spoil(f, &c, 12);
+    report("too tall", f->name, "", "", f->refuses & BIT(12) ? refused(f, &c, 12) : answered(f, &c));
+}
+
 /* Lists that are only read may be one, and a list that the call does not take may lie in one that it writes. */
 static void shared(const Function *f)
 {
@@ -349,6 +367,7 @@ static void lists_of(const Function *f)
 {
     Call c = accepted(f);
     report("accepted", f->name, "", "", answered(f, &c));
+    too_tall(f);
     shared(f);
     for (int list = 0; list < LISTS; list++) {
         if (!(f->takes & BIT(list)))
@@ -390,6 +409,8 @@ static void nothing(void)
     q.goal_len = 22;
     memset(memory[GOAL] + ROOM / 2, 1, 22);
     report("no lists", "plan, a long goal", "", "", nimskerf_plan(&q, NULL).refusal == 6);
+    q.beneath = NIMSKERF_STACK_LEN - 2;
+    report("no lists", "plan, a long goal, too tall", "", "", nimskerf_plan(&q, NULL).refusal == 12);
     report("no question, no lists", "plan", "", "", nimskerf_plan(NULL, NULL).refusal == 4);
 }
 

@@ -1,17 +1,28 @@
 //! Replay, marking and stepping back against the model; packing, star-swap and delete-tail against the Rust.
 
 use crate::{
-    case::{Call, Case, Tables},
-    compare::{Run, Sides},
+    case::{Answer, Call, Case, Tables},
+    compare::{Need, Run, Sides},
     draw::{self, Random},
     exhaustive::windows,
     model, walks,
 };
 use std::sync::Arc;
 
+/// Exercises without stacks that are too tall, or whose items beneath change nothing, show nothing of them.
+const NEEDS: &[Need] = &[
+    Need::Answer(Call::Replay, 12),
+    Need::Answer(Call::Mark, 12),
+    Need::Narrowed(Call::Replay),
+    Need::Narrowed(Call::Mark),
+    Need::Moved(Call::Replay),
+    Need::Moved(Call::Mark),
+];
+
 pub fn runs(seed: u64, count: u64) -> Vec<Run> {
+    let exercises = Run::new("exercises", seed, count, |sides, mut random| exercise(&mut random, sides));
     let mut runs = vec![
-        Run::new("exercises", seed, count, |sides, mut random| exercise(&mut random, sides)),
+        exercises.needing(NEEDS),
         small_windows(),
         Run::new("windows", seed, count, |sides, mut random| {
             pack(&mut random, sides);
@@ -25,14 +36,17 @@ pub fn runs(seed: u64, count: u64) -> Vec<Run> {
 /// One replay and one marking of the same steps, most of them allowed.
 fn exercise(random: &mut Random, sides: &mut Sides) {
     let mut case = Case::new(Call::Replay, &Arc::new(draw::tables(random)));
-    case.limits = draw::limits(random);
-    (case.start, case.goal) = draw::windows(random, case.limits.max_len);
+    case.limits = draw::deep_limits(random);
+    (case.start, case.goal) = draw::windows(random, case.limits.window());
     let count = random.below(40);
     case.steps = draw::steps(random, &case, count);
     if random.once_in(12) {
         for _ in 0..1 + random.below(2) {
             draw::spoil(random, &mut case);
         }
+    }
+    if random.once_in(24) {
+        case.limits.beneath = draw::any_beneath(random, case.start.len());
     }
     if random.once_in(400) {
         // Dup and Pop in turn: as long a replay as there is, and one step more.
@@ -41,9 +55,13 @@ fn exercise(random: &mut Random, sides: &mut Sides) {
     }
     case.lent.steps = if random.once_in(10) { random.below(21) } else { 21 + random.below(5) };
     case.lent.popped = draw::popped_room(random, case.steps.len());
-    let replayed = sides.compare(&case, random).answer;
+    let replayed = sides.compare_deep(&case, random);
+    marking(random, sides, case, replayed);
+}
 
-    // Marked against the window reached, so that costs count, or against the drawn goal.
+/// The marking of a replay's steps.
+fn marking(random: &mut Random, sides: &mut Sides, mut case: Case, replayed: Answer) {
+    // Against the window reached, so that costs count, or against the drawn goal.
     if !random.once_in(4) && !replayed.window.is_empty() {
         case.goal = replayed.window;
     }
@@ -61,7 +79,7 @@ fn exercise(random: &mut Random, sides: &mut Sides) {
         3 => [random.next() as u32, random.next() as u32],
         _ => [gas, bytes],
     };
-    sides.compare(&case, random);
+    sides.compare_deep(&case, random);
 }
 
 fn pack(random: &mut Random, sides: &mut Sides) {
@@ -86,6 +104,10 @@ fn builders(random: &mut Random, sides: &mut Sides) {
             fit(random, &mut case);
         }
         case.lent.steps = if random.once_in(40) { random.below(128) } else { 128 + random.below(3) };
+        if random.once_in(4) {
+            // A builder passes over them.
+            case.limits.beneath = draw::any_beneath(random, case.start.len());
+        }
         if random.once_in(40) {
             case.start.resize(random.below(25), 7);
         }

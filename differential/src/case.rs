@@ -33,6 +33,11 @@ impl Call {
         Self::ALL.into_iter().find(|call| call.name() == name)
     }
 
+    /// Whether the call takes the items beneath.
+    pub fn takes_beneath(self) -> bool {
+        matches!(self, Self::Plan | Self::Replay | Self::Mark | Self::Rewind)
+    }
+
     /// The fields of an answer behind the refusal, in order. A new field goes to the end.
     pub fn fields(self) -> &'static [&'static str] {
         match self {
@@ -72,28 +77,42 @@ pub const HIGHEST: usize = 9;
 /// The place of the highest window among the fields of replay and of marking.
 pub const HIGHEST_REPLAYED: usize = 2;
 
-/// Reaches, greatest length and allowances.
+/// The most items that a stack has, those beneath the window among them.
+pub const STACK_LEN: usize = 1_024;
+
+/// Reaches, greatest length, the items beneath the window, and allowances.
 #[derive(Clone, Copy, Debug, Default, PartialEq, Eq)]
 pub struct Limits {
     pub dup_max: usize,
     pub swap_max: usize,
     pub max_len: usize,
+    pub beneath: usize,
     pub max_expansions: usize,
     pub states_without: usize,
     pub states_with: usize,
 }
 
 impl Limits {
-    /// In document 01's order: reaches, `max_len`, allowances.
+    /// In document 01's order: reaches, `max_len`, allowances. The items beneath stand beside them.
     pub fn numbers(&self) -> [usize; 6] {
         [self.dup_max, self.swap_max, self.max_len, self.max_expansions, self.states_without, self.states_with]
     }
+
+    /// The planner's window: the smaller of `max_len` and 1,024 less the items beneath, 0 where these are more.
+    pub fn window(&self) -> usize {
+        self.max_len.min(STACK_LEN.saturating_sub(self.beneath))
+    }
+
+    /// The same with that window as `max_len` and nothing beneath.
+    pub fn narrowed(&self) -> Self {
+        Self { max_len: self.window(), beneath: 0, ..*self }
+    }
 }
 
-/// The limits of numbers in document 01's order.
+/// The limits of numbers in document 01's order, with nothing beneath.
 pub fn limits(numbers: [usize; 6]) -> Limits {
     let [dup_max, swap_max, max_len, max_expansions, states_without, states_with] = numbers;
-    Limits { dup_max, swap_max, max_len, max_expansions, states_without, states_with }
+    Limits { dup_max, swap_max, max_len, beneath: 0, max_expansions, states_without, states_with }
 }
 
 /// Lengths of the lists lent, as counts of numbers; `steps` is the result list's for a replay and a stepping back,
@@ -205,7 +224,8 @@ impl Case {
 
     /// The same call without what it does not take.
     pub fn taken(&self) -> Self {
-        let Limits { dup_max, swap_max, max_len, .. } = self.limits;
+        let Limits { dup_max, swap_max, max_len, beneath, .. } = self.limits;
+        let machine = Limits { dup_max, swap_max, max_len, beneath, ..Limits::default() };
         let desk = Tables::desk();
         let mut case = self.clone();
         if self.call != Call::Rewind {
@@ -219,12 +239,12 @@ impl Case {
             Call::Replay | Call::Rewind => {
                 let popped = if self.call == Call::Replay { self.lent.popped } else { 0 };
                 (case.goal, case.ceiling) = (Vec::new(), [0; 2]);
-                case.limits = Limits { dup_max, swap_max, max_len, ..Limits::default() };
+                case.limits = machine;
                 case.lent = Lengths { steps: self.lent.steps, popped, ..Lengths::default() };
                 Arc::make_mut(&mut case.tables).prices = desk.prices;
             }
             Call::Mark => {
-                case.limits = Limits { dup_max, swap_max, max_len, ..Limits::default() };
+                case.limits = machine;
                 case.lent = Lengths::default();
             }
             Call::Pack => case = Self { start: case.start, ..Self::new(Call::Pack, &Arc::new(desk)) },
@@ -235,6 +255,11 @@ impl Case {
             }
         }
         case
+    }
+
+    /// The same call with nothing beneath.
+    pub fn with_none_beneath(&self) -> Self {
+        Self { limits: Limits { beneath: 0, ..self.limits }, ..self.clone() }
     }
 
     /// The larger state allowance.

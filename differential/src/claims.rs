@@ -2,7 +2,7 @@
 
 use crate::{
     case::{Answer, CEILING, Call, Case, ENDING, FOUND, HIGHEST, HIGHEST_REPLAYED, PLAN_COST},
-    compare::{Run, Sides},
+    compare::{Need, Run, Sides},
     draw::{self, Random},
     port,
 };
@@ -22,12 +22,16 @@ fn raised(random: &mut Random, allowance: usize) -> usize {
     (allowance + more).min(65_536)
 }
 
+/// A run whose items beneath change no plan, no replay and no marking shows nothing of them.
+const NEEDS: &[Need] = &[Need::Moved(Call::Plan), Need::Narrowed(Call::Replay), Need::Narrowed(Call::Mark)];
+
 pub fn run(seed: u64, pairs: u64) -> Run {
-    Run::new("claims", seed, pairs, |sides, mut random| {
+    let run = Run::new("claims", seed, pairs, |sides, mut random| {
         // Other questions than those of `random` with the same seed.
         random.next();
         let tables = Arc::new(draw::tables(&mut random));
-        let mut first = draw::question(&mut random, &tables);
+        let mut first = draw::deep_question(&mut random, &tables);
+        // As many items beneath.
         let mut second = first.clone();
         for allowance in
             [&mut second.limits.max_expansions, &mut second.limits.states_without, &mut second.limits.states_with]
@@ -48,7 +52,8 @@ pub fn run(seed: u64, pairs: u64) -> Run {
         if !broken.is_empty() {
             sides.tally.differ(sides.index, &[&first, &second], || broken.join("; "));
         }
-    })
+    });
+    run.needing(NEEDS)
 }
 
 /// Demand 3: what may not happen between two answers of raised allowances.

@@ -6,6 +6,7 @@
 //! what a missing one means:
 //!
 //! - `call=`    planner (missing), replay, marking, packing, star-swap, delete-tail, rewind
+//! - `beneath=` the items beneath the window: 0
 //! - `steps=`   step codes, parted by commas: none
 //! - `popped=`  the popped keys that a stepping back is given, parted by commas: none
 //! - `ceiling=` gas, bytes: 0,0
@@ -25,6 +26,9 @@ pub fn command(case: &Case) -> String {
     let mut words = vec![joined(&case.limits.numbers(), " "), window(&case.start), window(&case.goal)];
     if case.call != Call::Plan {
         words.push(format!("call={}", case.call.name()));
+    }
+    if case.limits.beneath != 0 {
+        words.push(format!("beneath={}", case.limits.beneath));
     }
     if !case.steps.is_empty() {
         let (one, two) = (runs(&case.steps, 1), runs(&case.steps, 2));
@@ -82,6 +86,7 @@ pub fn parse(words: &[&str]) -> Result<Case, String> {
         let (name, value) = word.split_once('=').ok_or_else(|| format!("`{word}` is not WORD=VALUE"))?;
         match name {
             "call" => case.call = Call::from_name(value).ok_or_else(|| format!("`{value}` is no call"))?,
+            "beneath" => case.limits.beneath = number("a count", value)?,
             "steps" => case.steps = list("a step code", value)?,
             "popped" => case.popped = list("a key", value)?,
             "ceiling" => case.ceiling = fixed("ceiling", list("a ceiling", value)?)?,

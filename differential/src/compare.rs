@@ -1,7 +1,7 @@
 //! One case asked of both sides, and runs of many.
 
 use crate::{
-    case::{Answer, Call, Case},
+    case::{Answer, Call, Case, STACK_LEN},
     draw::Random,
     expect,
     faces::FACES,
@@ -37,6 +37,7 @@ impl Sides {
     pub fn compare(&mut self, case: &Case, random: &mut Random) -> Outcome {
         let expected = expect::answer(case, &mut self.reference);
         self.tally.count(case, &expected);
+        self.count_narrowed(case, &expected);
         self.port.lend(case, random);
         let outcomes = FACES.each_ref().map(|face| {
             let outcome = self.port.ask(face, case, expected.refusal != 0);
@@ -46,6 +47,36 @@ impl Sides {
             outcome
         });
         outcomes.into_iter().next().expect("the port has a face")
+    }
+
+    /// Counts a call whose window the items beneath make narrower, past 12 and the planner's 6: whether it is accepted,
+    /// and whether they change its answer.
+    fn count_narrowed(&mut self, case: &Case, expected: &Answer) {
+        let limits = case.limits;
+        let stays = !case.call.takes_beneath() || limits.window() == limits.max_len;
+        if stays || matches!(expected.refusal, 6 | 12) {
+            return;
+        }
+        let moved = expect::answer(&case.with_none_beneath(), &mut self.reference) != *expected;
+        self.tally.count_narrowed(case.call, expected.refusal == 0, moved);
+    }
+
+    /// Asks both sides a case. Where it has items beneath and its start and goal fit the narrower window, it is asked again
+    /// with that window as `max_len` and nothing beneath, and the port must answer the same: every field, every step,
+    /// window and popped key.
+    pub fn compare_deep(&mut self, case: &Case, random: &mut Random) -> Answer {
+        let answer = self.compare(case, random).answer;
+        if !fits_narrowed(case) {
+            return answer;
+        }
+        let narrow = Case { limits: case.limits.narrowed(), ..case.clone() };
+        let other = self.compare(&narrow, random).answer;
+        if other != answer {
+            let texts = [&answer, &other].map(|answer| answer.text(case.call));
+            let text = || format!("port: {}\n  with the narrower window as max_len: {}", texts[0], texts[1]);
+            self.tally.differ(self.index, &[case, &narrow], text);
+        }
+        answer
     }
 
     /// Asks the port the question of a record; what differs from the record's answer, in words.
@@ -63,6 +94,14 @@ impl Sides {
             (!as_expected(&outcome, expected)).then(|| difference(case, face.name, &outcome, expected))
         })
     }
+}
+
+/// Whether a case has items beneath, no more than a stack has, and a start and a goal that fit the narrower window.
+fn fits_narrowed(case: &Case) -> bool {
+    let limits = case.limits;
+    let goal = if matches!(case.call, Call::Plan | Call::Mark) { case.goal.len() } else { 0 };
+    let fits = case.start.len().max(goal) <= limits.window();
+    (1..=STACK_LEN).contains(&limits.beneath) && limits.max_len <= 21 && fits
 }
 
 fn as_expected(outcome: &Outcome, expected: &Answer) -> bool {
@@ -118,6 +157,29 @@ pub fn ask(case: &Case) -> bool {
     true
 }
 
+/// What must occur in a run: without it the run shows nothing.
+#[derive(Clone, Copy)]
+pub enum Need {
+    /// The call answers this number, 0 for accepted.
+    Answer(Call, u32),
+    /// The call is accepted with a window that the items beneath make narrower.
+    Narrowed(Call),
+    /// The items beneath change the call's answer, past 12 and the planner's 6.
+    Moved(Call),
+}
+
+impl Need {
+    /// In words, where it does not occur.
+    fn missing(self, tally: &Tally) -> Option<String> {
+        let (call, count, what) = match self {
+            Self::Answer(call, number) => (call, tally.answered(call, number), format!("answers {number}")),
+            Self::Narrowed(call) => (call, tally.narrowed(call), "accepts a narrowed window".into()),
+            Self::Moved(call) => (call, tally.moved(call), "answers otherwise for items beneath".into()),
+        };
+        (count == 0).then(|| format!("{} never {what}", call.name()))
+    }
+}
+
 /// Asks all that an item has.
 type Item = dyn Fn(&mut Sides, u64) + Sync;
 
@@ -128,8 +190,7 @@ pub struct Run {
     /// The items are 0, `step`, twice `step` and so on, below `end`.
     pub step: u64,
     pub end: u64,
-    /// Calls with numbers, 0 for accepted, that must occur: without them the run shows nothing.
-    needs: &'static [(Call, u32)],
+    needs: &'static [Need],
     each: Box<Item>,
 }
 
@@ -141,14 +202,13 @@ impl Run {
     }
 
     /// The run fails where one of these does not occur.
-    pub fn needing(self, needs: &'static [(Call, u32)]) -> Self {
+    pub fn needing(self, needs: &'static [Need]) -> Self {
         Self { needs, ..self }
     }
 
     /// What had to occur and did not, in words.
     pub fn missing(&self, tally: &Tally) -> Vec<String> {
-        let missing = self.needs.iter().filter(|&&(call, number)| tally.answered(call, number) == 0);
-        missing.map(|(call, number)| format!("{} never answers {number}", call.name())).collect()
+        self.needs.iter().filter_map(|need| need.missing(tally)).collect()
     }
 
     /// Every so many items only.

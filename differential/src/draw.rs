@@ -1,6 +1,6 @@
 //! Random questions, tables and windows.
 
-use crate::case::{Case, DUP, KEY, Limits, PAIRS, POP, SWAP, Tables};
+use crate::case::{Case, DUP, KEY, Limits, PAIRS, POP, STACK_LEN, SWAP, Tables};
 use std::sync::Arc;
 
 /// A small random number generator (splitmix64).
@@ -164,7 +164,7 @@ fn edit(random: &mut Random, keys: &[u8], most: usize, window: &mut Vec<u8>) {
     }
 }
 
-/// Reaches, allowances to the greatest among them.
+/// Reaches, allowances to the greatest among them; nothing beneath.
 pub fn limits(random: &mut Random) -> Limits {
     let wide = random.once_in(2);
     let reach = |random: &mut Random, most: usize| match random.below(4) {
@@ -192,13 +192,52 @@ pub fn limits(random: &mut Random) -> Limits {
     let max_expansions = allowance(random).div_ceil(share);
     let states_without = allowance(random);
     let states_with = if random.once_in(4) { states_without } else { allowance(random) };
-    Limits { dup_max, swap_max, max_len, max_expansions, states_without, states_with }
+    Limits { dup_max, swap_max, max_len, beneath: 0, max_expansions, states_without, states_with }
 }
 
-/// An accepted question with the least lists.
+/// The same with items beneath that leave an empty window room on the stack: most often none, else mostly so many that
+/// the window is narrower.
+pub fn deep_limits(random: &mut Random) -> Limits {
+    let limits = limits(random);
+    let beneath = match random.below(24) {
+        0..16 => 0,
+        16 => random.below(STACK_LEN + 1),
+        17 => STACK_LEN,
+        // Room for a key more than `max_len`, for as many, for one less.
+        18 | 19 => STACK_LEN - (limits.max_len + 1).saturating_sub(random.below(3)),
+        _ => 1_000 + random.below(25),
+    };
+    Limits { beneath, ..limits }
+}
+
+/// Items beneath that a call may refuse as 12: around the greatest count for a window of this length, around 1,024, and
+/// counts of which a sum or a difference, in 64 bits or fewer, would wrap.
+pub fn any_beneath(random: &mut Random, length: usize) -> usize {
+    match random.below(4) {
+        0 => (STACK_LEN + 2).saturating_sub(length + random.below(4)),
+        1 => 1_000 + random.below(27),
+        2 => usize::MAX - random.below(length + 3),
+        _ => {
+            let wide = random.pick(&[1 << 16, 1 << 31, 1 << 32, 1 << 63, usize::MAX - STACK_LEN]);
+            wide + random.pick(&[0, 1, 1_000, STACK_LEN])
+        }
+    }
+}
+
+/// An accepted question with nothing beneath and the least lists.
 pub fn question(random: &mut Random, tables: &Arc<Tables>) -> Case {
     let limits = limits(random);
-    let most = limits.swap_max.min(limits.max_len);
+    question_within(random, limits, tables)
+}
+
+/// An accepted question, some with items beneath, with the least lists.
+pub fn deep_question(random: &mut Random, tables: &Arc<Tables>) -> Case {
+    let limits = deep_limits(random);
+    question_within(random, limits, tables)
+}
+
+fn question_within(random: &mut Random, limits: Limits, tables: &Arc<Tables>) -> Case {
+    let most = limits.swap_max.min(limits.window());
     let (mut start, mut goal) = windows(random, most);
     // Few questions whose start is their goal.
     for _ in 0..3 {
@@ -209,17 +248,20 @@ pub fn question(random: &mut Random, tables: &Arc<Tables>) -> Case {
     Case::plan(limits, &start, &goal, tables)
 }
 
-/// So many steps that mostly fit the window, one in some dozens at random.
+/// So many steps that mostly fit the window, one in some dozens at random. Now and then those of a case with items
+/// beneath fit `max_len` alone.
 pub fn steps(random: &mut Random, case: &Case, count: usize) -> Vec<u16> {
     let Case { start, limits, tables, .. } = case;
     let mut length = start.len();
+    let wide = limits.beneath != 0 && random.once_in(3);
+    let most = if wide { limits.max_len } else { limits.window() };
     let fault = random.pick(&[20, 60, 1_000_000]);
     (0..count)
         .map(|_| {
             if random.once_in(fault) {
                 return code(random);
             }
-            let room = length < limits.max_len;
+            let room = length < most;
             let dup = length.min(limits.dup_max);
             let swap = length.min(limits.swap_max);
             match random.below(4) {
@@ -285,7 +327,7 @@ pub fn spoil(random: &mut Random, case: &mut Case) {
         12 => set(random, &mut case.goal, &[64, 65, 255]),
         _ => {
             let window = if random.once_in(2) { &mut case.start } else { &mut case.goal };
-            let most = limits.swap_max.min(limits.max_len).min(21);
+            let most = limits.swap_max.min(limits.window()).min(21);
             window.resize(most + 1 + random.below(6), random.pick(&[0, 1, 32, 63]));
         }
     }

@@ -1,8 +1,8 @@
 //! Combinations of edge values: each as it is, accepted, and every second one with faults, refused.
 
 use crate::{
-    case::{Case, Limits, SWAP, Tables, limits},
-    compare::Run,
+    case::{Call, Case, Limits, STACK_LEN, SWAP, Tables, limits},
+    compare::{Need, Run},
 };
 use std::sync::Arc;
 
@@ -47,7 +47,7 @@ fn windows(most: usize) -> Vec<(Vec<u8>, Vec<u8>)> {
 }
 
 /// What is wrong with a case: each has one thing one past its edge.
-const FAULTS: [fn(&mut Case); 20] = [
+const FAULTS: [fn(&mut Case); 22] = [
     |case| case.limits.dup_max = 17,
     |case| case.limits.swap_max = 18,
     |case| case.limits.max_len = 22,
@@ -63,12 +63,22 @@ const FAULTS: [fn(&mut Case); 20] = [
     |case| Arc::make_mut(&mut case.tables).prices[2 * SWAP] = 30_001,
     |case| case.start.push(64),
     |case| case.goal.insert(0, 255),
-    |case| case.start.resize(case.limits.swap_max.min(case.limits.max_len).min(21) + 1, 7),
-    |case| case.goal.resize(case.limits.swap_max.min(case.limits.max_len).min(21) + 1, 7),
+    |case| case.limits.beneath = STACK_LEN + 1 - case.start.len(),
+    |case| case.limits.beneath = usize::MAX,
+    |case| case.start.resize(case.limits.swap_max.min(case.limits.window()).min(21) + 1, 7),
+    |case| case.goal.resize(case.limits.swap_max.min(case.limits.window()).min(21) + 1, 7),
     |case| case.lent.steps = case.lent.steps.saturating_sub(1),
     |case| case.lent.nodes = case.lent.nodes.saturating_sub(1),
     |case| [case.lent.heads, case.lent.open] = [case.lent.heads, case.lent.open].map(|length| length.saturating_sub(1)),
 ];
+
+/// Counts of items beneath: none, as many as do not narrow the window, one more, and room for one key and for none.
+fn beneath(max_len: usize) -> Vec<usize> {
+    let mut counts = vec![0, STACK_LEN - max_len, (STACK_LEN - max_len + 1).min(STACK_LEN), STACK_LEN - 1, STACK_LEN];
+    counts.sort_unstable();
+    counts.dedup();
+    counts
+}
 
 /// Every combination of edge values that pass.
 fn combinations() -> Vec<(Limits, Vec<u8>, Vec<u8>)> {
@@ -76,10 +86,13 @@ fn combinations() -> Vec<(Limits, Vec<u8>, Vec<u8>)> {
     for dup_max in DUP_MAX {
         for swap_max in SWAP_MAX {
             for max_len in MAX_LEN {
-                for [expansions, without, with] in ALLOWANCES {
-                    let limits = limits([dup_max, swap_max, max_len, expansions, without, with]);
-                    let pairs = windows(swap_max.min(max_len));
-                    all.extend(pairs.into_iter().map(|(start, goal)| (limits, start, goal)));
+                for beneath in beneath(max_len) {
+                    for [expansions, without, with] in ALLOWANCES {
+                        let limits = limits([dup_max, swap_max, max_len, expansions, without, with]);
+                        let limits = Limits { beneath, ..limits };
+                        let pairs = windows(swap_max.min(limits.window()));
+                        all.extend(pairs.into_iter().map(|(start, goal)| (limits, start, goal)));
+                    }
                 }
             }
         }
@@ -87,10 +100,13 @@ fn combinations() -> Vec<(Limits, Vec<u8>, Vec<u8>)> {
     all
 }
 
+/// Edges without stacks that are too tall, or whose items beneath change no plan, show nothing of them.
+const NEEDS: &[Need] = &[Need::Answer(Call::Plan, 12), Need::Narrowed(Call::Plan), Need::Moved(Call::Plan)];
+
 /// An item is a combination with each of the tables; lists are the least.
 pub fn run() -> Run {
     let (tables, combinations) = (tables(), combinations());
-    Run::new("edges", 2, combinations.len() as u64, move |sides, mut random| {
+    let run = Run::new("edges", 2, combinations.len() as u64, move |sides, mut random| {
         let index = sides.index as usize;
         let (limits, ref start, ref goal) = combinations[index];
         for (i, tables) in tables.iter().enumerate() {
@@ -107,5 +123,6 @@ pub fn run() -> Run {
             }
             sides.compare(&case, &mut random);
         }
-    })
+    });
+    run.needing(NEEDS)
 }

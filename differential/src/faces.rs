@@ -27,7 +27,7 @@ pub const FACES: [Face; 2] = [
 /// The proved functions, on slices.
 fn proved(case: &Case, lists: Lists<'_>) -> Answer {
     let Case { start, goal, steps, popped, limits, tables, ceiling, .. } = case;
-    let (dup_max, swap_max, max_len) = (limits.dup_max, limits.swap_max, limits.max_len);
+    let Limits { dup_max, swap_max, max_len, beneath, .. } = *limits;
     let (kinds, prices) = (&tables.kinds, &tables.prices);
     match case.call {
         Call::Plan => {
@@ -35,12 +35,14 @@ fn proved(case: &Case, lists: Lists<'_>) -> Answer {
             planned(raw::plan(start, goal, &raw_limits(limits), kinds, prices, lent))
         }
         Call::Replay => {
-            replayed(raw::replay(start, steps, dup_max, swap_max, max_len, kinds, lists.result, lists.popped))
+            replayed(raw::replay(start, steps, dup_max, swap_max, max_len, beneath, kinds, lists.result, lists.popped))
         }
-        Call::Rewind => rewound(raw::rewind(start, steps, popped, dup_max, swap_max, max_len, kinds, lists.result)),
+        Call::Rewind => {
+            rewound(raw::rewind(start, steps, popped, dup_max, swap_max, max_len, beneath, kinds, lists.result))
+        }
         Call::Mark => {
             let [gas, bytes] = *ceiling;
-            marked(raw::mark(start, goal, steps, dup_max, swap_max, max_len, kinds, prices, gas, bytes))
+            marked(raw::mark(start, goal, steps, dup_max, swap_max, max_len, beneath, kinds, prices, gas, bytes))
         }
         Call::Pack => packed(raw::pack(start)),
         Call::StarSwap => built(raw::star_swap(start, goal, swap_max, lists.steps)),
@@ -50,8 +52,8 @@ fn proved(case: &Case, lists: Lists<'_>) -> Answer {
 
 /// The limits as the crate `nimskerf` has them.
 pub fn raw_limits(limits: &Limits) -> raw::Limits {
-    let Limits { dup_max, swap_max, max_len, max_expansions, states_without, states_with } = *limits;
-    raw::Limits { dup_max, swap_max, max_len, max_expansions, states_without, states_with }
+    let Limits { dup_max, swap_max, max_len, beneath, max_expansions, states_without, states_with } = *limits;
+    raw::Limits { dup_max, swap_max, max_len, beneath, max_expansions, states_without, states_with }
 }
 
 /// The functions of nimskerf.h, which check their pointers. An empty list is NULL.
@@ -112,7 +114,8 @@ fn checked_pops(steps: &[u16]) -> usize {
 /// A start that every call refuses which looks at it.
 const NO_START: [u8; 22] = [255; 22];
 
-/// A case's question for the checked functions. A stepping back does not take its start.
+/// A case's question for the checked functions. A stepping back does not take its start, and the builders pass over
+/// the items beneath.
 fn question(case: &Case) -> sys::NimskerfQuestion {
     let Case { goal, limits, tables, .. } = case;
     let start = if case.call == Call::Rewind { &NO_START[..] } else { &case.start };
@@ -131,6 +134,7 @@ fn question(case: &Case) -> sys::NimskerfQuestion {
         kinds_len: tables.kinds.len(),
         prices: pointer(&tables.prices),
         prices_len: tables.prices.len(),
+        beneath: limits.beneath,
     }
 }
 

@@ -3,9 +3,12 @@
 
 use crate::case::{Answer, Call, Case, DUP, KEY, POP, SWAP};
 
-/// The first number, in rising order, whose condition holds; 0 if none does.
-fn lowest(conditions: &[(u32, bool)]) -> u32 {
-    debug_assert!(conditions.is_sorted_by_key(|&(number, _)| number));
+/// The numbers below 8 in the order in which they are tested.
+const ORDER: [u32; 8] = [1, 2, 3, 4, 5, 12, 6, 7];
+
+/// The first number, in the order of the tests, whose condition holds; 0 if none does.
+fn first(conditions: &[(u32, bool)]) -> u32 {
+    debug_assert!(conditions.is_sorted_by_key(|(number, _)| ORDER.iter().position(|other| other == number)));
     conditions.iter().find(|&&(_, applies)| applies).map_or(0, |&(number, _)| number)
 }
 
@@ -28,37 +31,50 @@ fn bad_key(window: &[u8]) -> bool {
     window.iter().any(|&key| key >= 64)
 }
 
+/// Whether the items beneath and the start, of a stepping back the end, are over 1,024: a sum that never wraps.
+fn too_tall(case: &Case) -> bool {
+    items(case, case.start.len()) > 1_024
+}
+
+/// The items of a stack whose window is so long.
+pub fn items(case: &Case, length: usize) -> u128 {
+    case.limits.beneath as u128 + length as u128
+}
+
 /// The number that refuses a call, 0 if none does; all but 8 and 11.
 pub fn refusal(case: &Case) -> u32 {
     match case.call {
         Call::Plan => plan_refusal(case),
-        Call::Replay => lowest(&[
+        Call::Replay => first(&[
             (1, bad_reach(case)),
             (2, case.limits.max_len > 21),
             (3, case.steps.len() > 65_536),
             (4, bad_kinds(case)),
             (5, bad_key(&case.start)),
+            (12, too_tall(case)),
             (6, case.start.len() > case.limits.max_len),
             (7, case.lent.steps < 21 || case.lent.popped < case.steps.len()),
         ]),
-        Call::Rewind => lowest(&[
+        Call::Rewind => first(&[
             (1, bad_reach(case)),
             (2, case.limits.max_len > 21),
             (3, case.steps.len() > 65_536),
             (4, bad_kinds(case)),
             (5, bad_key(&case.start) || bad_key(&case.popped)),
+            (12, too_tall(case)),
             (6, case.start.len() > case.limits.max_len),
             (7, case.lent.steps < 21),
         ]),
-        Call::Mark => lowest(&[
+        Call::Mark => first(&[
             (1, bad_reach(case)),
             (2, case.limits.max_len > 21),
             (3, case.steps.len() > 65_536),
             (4, bad_kinds(case) || bad_prices(case)),
             (5, bad_key(&case.start) || bad_key(&case.goal)),
+            (12, too_tall(case)),
             (6, case.start.len().max(case.goal.len()) > case.limits.max_len),
         ]),
-        Call::Pack => lowest(&[(5, bad_key(&case.start)), (6, case.start.len() > 21)]),
+        Call::Pack => first(&[(5, bad_key(&case.start)), (6, case.start.len() > 21)]),
         Call::StarSwap => builder_refusal(case, (9, unroutable)),
         Call::DeleteTail => builder_refusal(case, (10, not_a_tail)),
     }
@@ -69,13 +85,14 @@ fn plan_refusal(case: &Case) -> u32 {
     let allowances = [limits.max_expansions, limits.states_without, limits.states_with];
     let longest = case.start.len().max(case.goal.len());
     let entries = [lent.nodes / 8, lent.heads, lent.open / 4];
-    lowest(&[
+    first(&[
         (1, bad_reach(case)),
         (2, limits.max_len > 21),
         (3, allowances.iter().any(|&allowance| allowance > 65_536)),
         (4, bad_kinds(case) || bad_prices(case)),
         (5, bad_key(&case.start) || bad_key(&case.goal)),
-        (6, longest > limits.swap_max || longest > limits.max_len),
+        (12, too_tall(case)),
+        (6, longest > limits.swap_max || longest > limits.max_len || items(case, longest) > 1_024),
         (7, entries.iter().any(|&entries| entries < case.states().saturating_add(50))),
         (7, lent.steps < 128 || lent.steps < limits.max_expansions),
     ])
@@ -83,7 +100,7 @@ fn plan_refusal(case: &Case) -> u32 {
 
 /// A builder's refusal: `none` is its own number and when it is given.
 fn builder_refusal(case: &Case, none: (u32, fn(&Case) -> bool)) -> u32 {
-    let before = lowest(&[
+    let before = first(&[
         (1, case.limits.swap_max > 17),
         (5, bad_key(&case.start) || bad_key(&case.goal)),
         (6, case.start.len() > 21 || case.goal.len() > 21),
@@ -108,13 +125,12 @@ fn not_a_tail(case: &Case) -> bool {
 }
 
 /// The window after a step, none where the step is not allowed. Items may be more than keys: a step moves them, or
-/// makes one of its key.
+/// makes one of its key. A window grows while it is shorter than `max_len` and the stack has fewer than 1,024 items.
 pub fn after<T: Copy + From<u8>>(case: &Case, window: &[T], code: u16) -> Option<Vec<T>> {
     let (kind, operand) = (code / 256, usize::from(code % 256));
     let length = window.len();
-    let grown = |item: T| -> Option<Vec<T>> {
-        (length < case.limits.max_len).then(|| std::iter::once(item).chain(window.iter().copied()).collect())
-    };
+    let room = length < case.limits.max_len && items(case, length) < 1_024;
+    let grown = |item: T| room.then(|| std::iter::once(item).chain(window.iter().copied()).collect::<Vec<T>>());
     match kind {
         0 => (operand == 0 && length > 0).then(|| window[1..].to_vec()),
         1 => (operand < case.limits.dup_max && operand < length).then(|| grown(window[operand])).flatten(),

@@ -3,7 +3,7 @@
 //! A new field of a question or an answer gets the next tag, or a further entry at the end of `LIMITS`, `LENT`,
 //! `CEILING` or `ANSWER`; a record that lacks it has its default, so records written before stay readable.
 
-use crate::case::{Answer, Call, Case, Lengths, Tables, limits};
+use crate::case::{Answer, Call, Case, Lengths, Limits, Tables, limits};
 use std::sync::Arc;
 
 /// A field's tag and the bytes of its entries. The fields of a record stand in this order.
@@ -23,7 +23,12 @@ const PLAN: Tag = Tag(10, 2);
 const WINDOW: Tag = Tag(11, 1);
 const POPPED: Tag = Tag(12, 1);
 const ROOM: Tag = Tag(13, 4);
-const TAGS: [Tag; 13] = [START, GOAL, LIMITS, TABLES, PASSED, LENT, CEILING, STEPS, ANSWER, PLAN, WINDOW, POPPED, ROOM];
+const BENEATH: Tag = Tag(14, 4);
+const TAGS: [Tag; 14] =
+    [START, GOAL, LIMITS, TABLES, PASSED, LENT, CEILING, STEPS, ANSWER, PLAN, WINDOW, POPPED, ROOM, BENEATH];
+
+/// A number of 64 bits is two entries, its low 32 bits first.
+const LOW: usize = 0xffff_ffff;
 
 /// Bytes before a record's fields, and before a field's entries.
 const HEAD: usize = 8;
@@ -123,6 +128,8 @@ impl Record {
         fields.put(PLAN, &answer.plan);
         fields.put(WINDOW, &answer.window);
         self.put_popped(&mut fields);
+        let beneath = case.limits.beneath;
+        fields.put_numbers(BENEATH, &[beneath & LOW, beneath >> 32]);
 
         let size = u32::try_from(HEAD + fields.bytes.len()).expect("a size of 32 bits");
         let mut bytes = size.to_le_bytes().to_vec();
@@ -216,7 +223,8 @@ impl<'a> Read<'a> {
         let mut case = Case::new(call, &Arc::new(tables));
         case.start = self.bytes(START);
         case.goal = self.bytes(GOAL);
-        case.limits = limits(self.numbers(LIMITS));
+        let [low, high] = self.numbers(BENEATH);
+        case.limits = Limits { beneath: low | high << 32, ..limits(self.numbers(LIMITS)) };
         let [steps, nodes, heads, open] = self.numbers(LENT);
         case.lent = Lengths { steps, nodes, heads, open, popped: 0 };
         case.ceiling = self.numbers(CEILING).map(|part| part as u32);

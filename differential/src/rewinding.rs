@@ -3,7 +3,7 @@
 
 use crate::{
     case::{Answer, Case},
-    model::{Run, run},
+    model::{Run, items, run},
 };
 use std::collections::HashMap;
 
@@ -14,6 +14,8 @@ pub enum NoStart {
     PopCount,
     /// The start would be longer than `max_len`.
     TooLong,
+    /// With the items beneath the start would be over 1,024.
+    TooTall,
     /// The start would be shorter than empty.
     TooShort,
     /// A step is not allowed from any start of the length that leads to the end's.
@@ -23,8 +25,9 @@ pub enum NoStart {
 }
 
 impl NoStart {
-    pub const COUNT: usize = 5;
-    pub const WORDS: [&str; Self::COUNT] = ["pop count", "start too long", "start too short", "step", "key"];
+    pub const COUNT: usize = 6;
+    pub const WORDS: [&str; Self::COUNT] =
+        ["pop count", "start too long", "stack too tall", "start too short", "step", "key"];
 }
 
 /// An item on the way from a start that is not known.
@@ -71,7 +74,13 @@ fn start_length(case: &Case) -> Result<usize, NoStart> {
         return Err(NoStart::PopCount);
     }
     let length = (case.start.len() + pops).checked_sub(grown).ok_or(NoStart::TooShort)?;
-    if length > case.limits.max_len { Err(NoStart::TooLong) } else { Ok(length) }
+    if length > case.limits.max_len {
+        Err(NoStart::TooLong)
+    } else if items(case, length) > 1_024 {
+        Err(NoStart::TooTall)
+    } else {
+        Ok(length)
+    }
 }
 
 /// What is answered where there is this start, or none.
@@ -88,7 +97,8 @@ pub type Starts = HashMap<(Vec<u8>, Vec<u8>), Vec<u8>>;
 /// Tries all of these starts; none where two lead to the same end with the same keys popped.
 pub fn tried(case: &Case, starts: &[Vec<u8>]) -> Option<Starts> {
     let mut led = Starts::new();
-    for start in starts.iter().filter(|start| start.len() <= case.limits.max_len) {
+    let accepted = |start: &&Vec<u8>| start.len() <= case.limits.max_len && items(case, start.len()) <= 1_024;
+    for start in starts.iter().filter(accepted) {
         let Ok(Run { window, popped, .. }) = run(case, start, &case.steps) else {
             continue;
         };

@@ -8,7 +8,7 @@ const VECTORS: &str = concat!(env!("CARGO_MANIFEST_DIR"), "/../crates/vectors/da
 
 /// The parts that are runs: every so many items of the domains, and the first of the drawn ones.
 pub fn runs() -> Vec<Run> {
-    let domains = exhaustive::runs().into_iter().zip([31, 199]).map(|(run, step)| run.every(step));
+    let domains = exhaustive::runs().into_iter().zip([31, 199, 37]).map(|(run, step)| run.every(step));
     let drawn = [edges::run().every(7), random::run(1, 8_000), claims::run(1, 1_500)];
     let calls = calls::runs(1, 10_000).into_iter().map(|run| match run.name {
         "small-windows" => run.every(7),

@@ -1,7 +1,7 @@
 //! Makes a case that differs smaller, step by step, while it still differs.
 
 use crate::{
-    case::{Case, Tables},
+    case::{Case, Lengths, Limits, STACK_LEN, Tables, limits},
     command::MOST_LENT,
     compare::{Sides, differs_alone},
 };
@@ -60,7 +60,7 @@ fn size(case: &Case) -> [u128; 6] {
         (case.start.len() + case.goal.len() + case.steps.len() + case.popped.len()) as u128,
         prices_size + kinds_size as u128 + case.tables.kinds.len().abs_diff(64) as u128,
         if prices_size == 0 { 0 } else { price_sum },
-        sum(&case.limits.numbers()),
+        sum(&case.limits.numbers()) + case.limits.beneath as u128,
         sum(&case.lent.numbers()),
         keys + case.steps.iter().map(|&code| u128::from(code)).sum::<u128>()
             + case.ceiling.map(u128::from).iter().sum::<u128>(),
@@ -112,6 +112,12 @@ fn keys(case: &Case, add: &mut Add<'_>) {
             }
         });
     }
+    // The lowest key beneath the window.
+    add(&|c| {
+        let had_key = c.start.pop().is_some();
+        c.goal.pop();
+        c.limits.beneath = c.limits.beneath.saturating_add(usize::from(had_key));
+    });
     for at in 0..case.popped.len().min(64) {
         add(&|c| {
             c.popped.remove(at);
@@ -169,16 +175,21 @@ fn numbers(case: &Case, add: &mut Add<'_>) {
             add(&|c| {
                 let mut numbers = c.limits.numbers();
                 numbers[at] = lower;
-                c.limits = crate::case::limits(numbers);
+                c.limits = Limits { beneath: c.limits.beneath, ..limits(numbers) };
             });
         }
+    }
+    // None, then around 1,024.
+    let near = STACK_LEN - 24..STACK_LEN + 3;
+    for fewer in lower(case.limits.beneath).into_iter().chain(near).filter(|&fewer| fewer < case.limits.beneath) {
+        add(&|c| c.limits.beneath = fewer);
     }
     for at in 0..5 {
         for lower in lower(case.lent.numbers()[at]) {
             add(&|c| {
                 let mut numbers = c.lent.numbers();
                 numbers[at] = lower;
-                c.lent = crate::case::Lengths::of(numbers);
+                c.lent = Lengths::of(numbers);
             });
         }
     }

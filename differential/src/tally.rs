@@ -59,6 +59,10 @@ pub struct Tally {
     /// Accepted replays that pop keys, and the most keys that one popped.
     popping: u64,
     most_popped: usize,
+    /// By call, past 12 and the planner's 6: those accepted with a window that the items beneath make narrower, and
+    /// those to which they change the answer.
+    narrowed: Counts<{ Call::COUNT }>,
+    moved: Counts<{ Call::COUNT }>,
     /// Why there is no start.
     no_start: Counts<{ NoStart::COUNT }>,
     marks: Counts<3>,
@@ -83,6 +87,8 @@ impl Default for Tally {
             refused: [Counts::NONE; Call::COUNT],
             popping: 0,
             most_popped: 0,
+            narrowed: Counts::NONE,
+            moved: Counts::NONE,
             no_start: Counts::NONE,
             marks: Counts::NONE,
             endings: Counts::NONE,
@@ -131,6 +137,12 @@ impl Tally {
         }
     }
 
+    /// A call with a narrower window: whether it is accepted, and whether the items beneath change its answer.
+    pub fn count_narrowed(&mut self, call: Call, accepted: bool, moved: bool) {
+        self.narrowed.0[call as usize] += u64::from(accepted);
+        self.moved.0[call as usize] += u64::from(moved);
+    }
+
     pub fn differ(&mut self, index: u64, cases: &[&Case], text: impl FnOnce() -> String) {
         self.differences += 1;
         let new_item = self.first.last().is_none_or(|last| last.index != index);
@@ -142,6 +154,16 @@ impl Tally {
     /// How often a call answered a number, 0 for accepted.
     pub fn answered(&self, call: Call, number: u32) -> u64 {
         self.refused[call as usize].0[number as usize]
+    }
+
+    /// How often a call was accepted with a window that the items beneath make narrower.
+    pub fn narrowed(&self, call: Call) -> u64 {
+        self.narrowed.0[call as usize]
+    }
+
+    /// How often the items beneath changed a call's answer.
+    pub fn moved(&self, call: Call) -> u64 {
+        self.moved.0[call as usize]
     }
 
     pub fn accepted(&self) -> u64 {
@@ -178,6 +200,8 @@ impl AddAssign for Tally {
         self.refused.iter_mut().zip(other.refused).for_each(|(sum, counts)| *sum += counts);
         self.popping += other.popping;
         self.most_popped = self.most_popped.max(other.most_popped);
+        self.narrowed += other.narrowed;
+        self.moved += other.moved;
         self.no_start += other.no_start;
         self.marks += other.marks;
         self.endings += other.endings;
@@ -195,6 +219,17 @@ impl AddAssign for Tally {
     }
 }
 
+impl Tally {
+    /// The calls with a narrower window.
+    fn fmt_narrowed(&self, f: &mut fmt::Formatter<'_>) -> fmt::Result {
+        let of = |call: &Call| (call.name(), self.narrowed(*call), self.moved(*call));
+        let some = Call::ALL.iter().map(of).filter(|&(_, narrowed, moved)| narrowed + moved != 0);
+        let texts: Vec<String> =
+            some.map(|(name, narrowed, moved)| format!("{name} {narrowed} accepted, {moved} changed")).collect();
+        if texts.is_empty() { Ok(()) } else { writeln!(f, "narrowed       {}", texts.join("; ")) }
+    }
+}
+
 impl fmt::Display for Tally {
     fn fmt(&self, f: &mut fmt::Formatter<'_>) -> fmt::Result {
         for (call, counts) in Call::ALL.iter().zip(&self.refused) {
@@ -209,6 +244,7 @@ impl fmt::Display for Tally {
         if self.popping != 0 {
             writeln!(f, "popping        {} replays, at most {} keys", self.popping, self.most_popped)?;
         }
+        self.fmt_narrowed(f)?;
         if self.no_start.0.iter().any(|&n| n != 0) {
             let reasons: Vec<String> =
                 NoStart::WORDS.iter().zip(self.no_start.0).map(|(word, n)| format!("{word} {n}")).collect();

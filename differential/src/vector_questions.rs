@@ -1,5 +1,6 @@
 //! Which questions stand in the fixed list.
 
+mod beneath;
 mod stepping_back;
 
 use crate::{
@@ -38,6 +39,7 @@ pub fn all() -> Vec<Record> {
     highest_windows(&mut list);
     highest_planned(&mut list);
     stepping_back::all(&mut list);
+    beneath::all(&mut list);
     list.records
 }
 

@@ -6,7 +6,9 @@ use crate::{
     command::command,
     compare::Sides,
     draw::Random,
+    expect,
     record::{KINDS, PRICES, Pool, Record, number},
+    reference::Reference,
     rewinding::{NoStart, start_before},
     vector_questions,
 };
@@ -70,9 +72,11 @@ fn bytes_of(records: &[Record]) -> Vec<u8> {
 }
 
 /// The bytes of the records as they were before planner, replay and marking answered the highest window, their last
-/// field, and before replay wrote the popped keys: then there was no stepping back, and no number of places for them.
+/// field, and before replay wrote the popped keys: then there was no stepping back, no number of places for them, and
+/// neither items beneath nor 12.
 pub fn older(mut records: Vec<Record>) -> Vec<u8> {
-    records.retain(|Record { case, .. }| match case.call {
+    records.retain(|Record { case, answer, .. }| match case.call {
+        _ if case.limits.beneath != 0 || answer.refusal == 12 => false,
         Call::Replay => case.lent.popped == case.steps.len(),
         call => call != Call::Rewind,
     });
@@ -115,6 +119,29 @@ fn summary(records: &[Record]) {
     println!("records that fit the desk's lists: {}", records.iter().filter(|record| fits_desk(record)).count());
     highest_windows(records);
     popped_keys(records);
+    items_beneath(records);
+}
+
+/// Prints how many calls have items beneath, are refused for them, have a narrower window and answer otherwise for it.
+fn items_beneath(records: &[Record]) {
+    let mut reference = Reference::default();
+    let (mut calls, mut tall, mut narrowed, mut moved) =
+        ([0; Call::COUNT], [0; Call::COUNT], [0; Call::COUNT], [0; Call::COUNT]);
+    for Record { case, answer, .. } in records {
+        let (call, limits) = (case.call as usize, case.limits);
+        tall[call] += usize::from(answer.refusal == 12);
+        if limits.beneath == 0 {
+            continue;
+        }
+        calls[call] += 1;
+        narrowed[call] += usize::from(answer.refusal == 0 && limits.window() < limits.max_len);
+        let wide = expect::answer(&case.with_none_beneath(), &mut reference);
+        moved[call] += usize::from(answer.refusal != 12 && wide != *answer);
+    }
+    println!("by call, with items beneath {calls:?}; refused as 12 {tall:?}");
+    println!(
+        "accepted with a narrower window {narrowed:?}; past 12 another answer than with nothing beneath {moved:?}"
+    );
 }
 
 /// Prints what replays pop and what steppings back answer.

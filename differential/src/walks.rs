@@ -1,23 +1,30 @@
 //! Stepping back: replays walked back from what the port wrote, wrong ones, and all questions of a small domain.
 
 use crate::{
-    case::{Call, Case, Lengths, Limits, Tables},
-    compare::{Run, Sides},
+    case::{Call, Case, Lengths, Limits, STACK_LEN, Tables},
+    compare::{Need, Run, Sides},
     draw::{self, Random},
     exhaustive::windows,
     rewinding,
 };
 use std::sync::Arc;
 
-/// A run in which no walk has a start, or every one has, shows nothing.
-const BOTH: &[(Call, u32)] = &[(Call::Rewind, 0), (Call::Rewind, 11)];
+/// A run in which no walk has a start, or every one has, shows nothing; neither does one without stacks that are too tall
+/// or whose items beneath change nothing.
+const NEEDS: &[Need] = &[
+    Need::Answer(Call::Rewind, 0),
+    Need::Answer(Call::Rewind, 11),
+    Need::Answer(Call::Rewind, 12),
+    Need::Narrowed(Call::Rewind),
+    Need::Moved(Call::Rewind),
+];
 
 pub fn runs(seed: u64, count: u64) -> Vec<Run> {
     let walks = Run::new("walks", seed, count, |sides, mut random| walk(&mut random, sides));
-    vec![walks.needing(BOTH), small_steps().needing(BOTH)]
+    vec![walks.needing(NEEDS), small_steps().needing(NEEDS)]
 }
 
-/// A replay, the walk back from its end, and two walks with something changed.
+/// A replay, the walk back from its end, one with other items beneath alone, and two walks with something changed.
 fn walk(random: &mut Random, sides: &mut Sides) {
     // Other steps than those of `exercises` with the same seed.
     random.next();
@@ -25,24 +32,29 @@ fn walk(random: &mut Random, sides: &mut Sides) {
     let Some((there, back)) = walked_there(random, there, sides) else {
         return;
     };
-    let answer = sides.compare(&back, random).answer;
+    let answer = sides.compare_deep(&back, random);
     if answer.refusal != 0 || answer.window != there.start {
         sides.tally.differ(sides.index, &[&there, &back], || "the walk back does not give the start".into());
+    }
+    if back.limits.beneath != 0 || random.once_in(4) {
+        let mut deeper = back.clone();
+        deeper.limits.beneath = draw::any_beneath(random, deeper.start.len());
+        sides.compare_deep(&deeper, random);
     }
     for _ in 0..2 {
         let mut wrong = back.clone();
         for _ in 0..1 + random.below(2) {
             change(random, &mut wrong);
         }
-        sides.compare(&wrong, random);
+        sides.compare_deep(&wrong, random);
     }
 }
 
 /// A replay of drawn steps, now and then of as many as there may be.
 fn replayed(random: &mut Random) -> Case {
     let mut case = Case::new(Call::Replay, &Arc::new(draw::tables(random)));
-    case.limits = draw::limits(random);
-    (case.start, _) = draw::windows(random, case.limits.max_len);
+    case.limits = draw::deep_limits(random);
+    (case.start, _) = draw::windows(random, case.limits.window());
     let count = if random.once_in(400) { 65_536 } else { random.below(40) };
     case.steps = draw::steps(random, &case, count);
     case.lent = Lengths { steps: 21 + random.below(5), ..case.least() };
@@ -127,7 +139,8 @@ fn change_kind(random: &mut Random, case: &mut Case) {
 const CODES: [u16; 14] = [0, 256, 257, 258, 512, 513, 514, 515, 768, 769, 1024, 1025, 1, 1280];
 
 /// All steps up to three, ends up to `max_len` and popped keys up to three, over a value and an immediate, at small
-/// reaches: against both models. An item is a set of rules and steps.
+/// reaches, and with room for no more than three keys above the items beneath: against both models. An item is a set of
+/// rules and steps.
 fn small_steps() -> Run {
     let (rules, steps) = (small_rules(), step_lists(3));
     let (keys, starts) = (windows(&[0, 1], 3), windows(&[0, 1, 2], 3));
@@ -165,6 +178,12 @@ fn small_rules() -> Vec<Limits> {
     for dup_max in 0..4 {
         for swap_max in [0, 2, 3] {
             rules.extend((0..4).map(|max_len| Limits { dup_max, swap_max, max_len, ..Limits::default() }));
+        }
+    }
+    for [dup_max, swap_max] in [[1, 2], [3, 3]] {
+        for max_len in [2, 3, 21] {
+            let deep = (STACK_LEN - 3)..=STACK_LEN;
+            rules.extend(deep.map(|beneath| Limits { dup_max, swap_max, max_len, beneath, ..Limits::default() }));
         }
     }
     rules

@@ -35,6 +35,8 @@ use std::sync::LazyLock;
 
 /// The longest window that can be packed.
 pub const MAX_LEN: usize = 21;
+/// The most items of a stack: those beneath the window and those in it.
+pub const STACK_LEN: usize = 1024;
 /// The greatest allowance.
 pub const MAX_ALLOWANCE: usize = 65_536;
 /// The least step list that the planner and the builders take.
@@ -57,18 +59,24 @@ pub struct Question<'a> {
     pub start: &'a [u8],
     pub goal: &'a [u8],
     pub reaches: Reaches,
+    /// Items of the stack beneath the window; the stack never has more than 1,024 in all.
+    pub beneath: usize,
     pub allowances: Allowances,
     pub tables: &'a Tables,
 }
 
 impl<'a> Question<'a> {
-    /// With the default reaches and allowances and the exam desk's tables.
+    /// With the default reaches and allowances, nothing beneath and the exam desk's tables.
     pub fn new(start: &'a [u8], goal: &'a [u8]) -> Self {
-        Self { start, goal, reaches: Reaches::default(), allowances: Allowances::default(), tables: &DESK }
+        Self { start, goal, reaches: Reaches::default(), beneath: 0, allowances: Allowances::default(), tables: &DESK }
     }
 
     pub const fn with_reaches(self, reaches: Reaches) -> Self {
         Self { reaches, ..self }
+    }
+
+    pub const fn with_beneath(self, beneath: usize) -> Self {
+        Self { beneath, ..self }
     }
 
     pub const fn with_allowances(self, allowances: Allowances) -> Self {
@@ -177,7 +185,8 @@ impl Planner {
 pub fn plan_in(question: &Question<'_>, lists: Lists<'_>) -> Result<Answer, Refusal> {
     let Reaches { dup_max, swap_max, max_len } = question.reaches;
     let Allowances { max_expansions, states_without, states_with } = question.allowances;
-    let limits = Limits { dup_max, swap_max, max_len, max_expansions, states_without, states_with };
+    let beneath = question.beneath;
+    let limits = Limits { dup_max, swap_max, max_len, beneath, max_expansions, states_without, states_with };
     let Lists { steps, nodes, heads, open } = lists;
     let answer = raw::plan(
         question.start,
@@ -207,9 +216,9 @@ pub fn replay(question: &Question<'_>, steps: &[Step]) -> Result<Replayed, Refus
 
 /// Replays step codes, whoever wrote them.
 pub fn replay_codes(question: &Question<'_>, codes: &[u16]) -> Result<Replayed, Refusal> {
-    let Question { start, reaches: Reaches { dup_max, swap_max, max_len }, tables, .. } = *question;
-    let (mut result, mut popped) = ([0; MAX_LEN], vec![0; codes.len()]);
-    let replayed = raw::replay(start, codes, dup_max, swap_max, max_len, &tables.kinds, &mut result, &mut popped);
+    let Question { start, reaches: Reaches { dup_max, swap_max, max_len }, beneath, tables, .. } = *question;
+    let (kinds, mut result, mut popped) = (&tables.kinds, [0; MAX_LEN], vec![0; codes.len()]);
+    let replayed = raw::replay(start, codes, dup_max, swap_max, max_len, beneath, kinds, &mut result, &mut popped);
     if let Some(refusal) = Refusal::from_number(replayed.refusal, replayed.index) {
         return Err(refusal);
     }
@@ -218,16 +227,16 @@ pub fn replay_codes(question: &Question<'_>, codes: &[u16]) -> Result<Replayed, 
 }
 
 /// Steps back: the start from which a replay of the steps ends in `end` with exactly these keys popped, the first
-/// popped first. Takes the question's reaches and kinds.
+/// popped first. Takes the question's reaches, the items beneath and the kinds.
 pub fn rewind(question: &Question<'_>, end: &[u8], steps: &[Step], popped: &[u8]) -> Result<Vec<u8>, Refusal> {
     rewind_codes(question, end, &codes(steps), popped)
 }
 
 /// Steps back through step codes, whoever wrote them.
 pub fn rewind_codes(question: &Question<'_>, end: &[u8], codes: &[u16], popped: &[u8]) -> Result<Vec<u8>, Refusal> {
-    let Question { reaches: Reaches { dup_max, swap_max, max_len }, tables, .. } = *question;
+    let Question { reaches: Reaches { dup_max, swap_max, max_len }, beneath, tables, .. } = *question;
     let mut result = [0; MAX_LEN];
-    let rewound = raw::rewind(end, codes, popped, dup_max, swap_max, max_len, &tables.kinds, &mut result);
+    let rewound = raw::rewind(end, codes, popped, dup_max, swap_max, max_len, beneath, &tables.kinds, &mut result);
     match Refusal::from_number(rewound.refusal, 0) {
         Some(refusal) => Err(refusal),
         None => Ok(result[..rewound.length].to_vec()),
@@ -241,9 +250,9 @@ pub fn mark(question: &Question<'_>, steps: &[Step], ceiling: Cost) -> Result<Ma
 
 /// Marks step codes, whoever wrote them, against a ceiling.
 pub fn mark_codes(question: &Question<'_>, codes: &[u16], ceiling: Cost) -> Result<Marked, Refusal> {
-    let Question { start, goal, reaches: Reaches { dup_max, swap_max, max_len }, tables, .. } = *question;
-    let Tables { kinds, prices } = tables;
-    let marked = raw::mark(start, goal, codes, dup_max, swap_max, max_len, kinds, prices, ceiling.gas, ceiling.bytes);
+    let Question { start, goal, reaches: Reaches { dup_max, swap_max, max_len }, beneath, tables, .. } = *question;
+    let (Tables { kinds, prices }, Cost { gas, bytes }) = (tables, ceiling);
+    let marked = raw::mark(start, goal, codes, dup_max, swap_max, max_len, beneath, kinds, prices, gas, bytes);
     match Refusal::from_number(marked.refusal, marked.index) {
         Some(refusal) => Err(refusal),
         None => Ok(Marked { mark: Mark::from_number(marked.mark), highest: marked.highest }),

@@ -31,6 +31,7 @@ pub struct NimskerfQuestion {
     pub kinds_len: usize,
     pub prices: *const u32,
     pub prices_len: usize,
+    pub beneath: usize,
 }
 
 /// The lists lent to a planning.
@@ -171,6 +172,7 @@ unsafe extern "C" {
         dup_max: usize,
         swap_max: usize,
         max_len: usize,
+        beneath: usize,
         max_expansions: usize,
         states_without: usize,
         states_with: usize,
@@ -196,6 +198,7 @@ unsafe extern "C" {
         dup_max: usize,
         swap_max: usize,
         max_len: usize,
+        beneath: usize,
         kinds: *const u8,
         kinds_len: usize,
         result: *mut u8,
@@ -216,6 +219,7 @@ unsafe extern "C" {
         dup_max: usize,
         swap_max: usize,
         max_len: usize,
+        beneath: usize,
         kinds: *const u8,
         kinds_len: usize,
         result: *mut u8,
@@ -232,6 +236,7 @@ unsafe extern "C" {
         dup_max: usize,
         swap_max: usize,
         max_len: usize,
+        beneath: usize,
         kinds: *const u8,
         kinds_len: usize,
         prices: *const u32,

@@ -178,7 +178,7 @@ fn sentence(text: unsafe extern "C" fn(u32) -> *const c_char, number: u32) -> &'
     unsafe { CStr::from_ptr(text(number)) }.to_str().expect("sentences are plain text")
 }
 
-/// Why a call is refused. The lowest number that applies is given.
+/// Why a call is refused. Of those that apply the first is given, in this order: 1 to 5, 12, 6 to 11.
 #[derive(Clone, Copy, Debug, PartialEq, Eq, Hash)]
 #[non_exhaustive]
 pub enum Refusal {
@@ -192,7 +192,7 @@ pub enum Refusal {
     Table,
     /// 5: a start, goal or end key, or a popped key that is given, of 64 or more.
     Key,
-    /// 6: a window too long for the reaches, or for the call.
+    /// 6: a window too long for the reaches, or for the call; in a planning also for what is beneath it.
     Length,
     /// 7: a lent list is too short.
     Short,
@@ -204,13 +204,15 @@ pub enum Refusal {
     NotATail,
     /// 11: no start leads through the steps to the end with these keys popped.
     NoStart,
+    /// 12: the items beneath and the start (of stepping back: the end) together over 1,024.
+    Stack,
 }
 
 impl Refusal {
     /// The refusal of a number, none for 0. `index` counts at 8.
     ///
     /// # Panics
-    /// For a number over 11, which no call gives.
+    /// For a number over 12, which no call gives.
     pub fn from_number(number: u32, index: usize) -> Option<Self> {
         Some(match number {
             0 => return None,
@@ -225,6 +227,7 @@ impl Refusal {
             9 => Refusal::Unroutable,
             10 => Refusal::NotATail,
             11 => Refusal::NoStart,
+            12 => Refusal::Stack,
             _ => panic!("no refusal has the number {number}"),
         })
     }
@@ -242,6 +245,7 @@ impl Refusal {
             Refusal::Unroutable => 9,
             Refusal::NotATail => 10,
             Refusal::NoStart => 11,
+            Refusal::Stack => 12,
         }
     }
 }

@@ -61,7 +61,8 @@ impl ExactSizeIterator for WalkBack<'_> {}
 impl FusedIterator for WalkBack<'_> {}
 
 /// Walks back from an end window through steps that popped these keys, the first popped first. A way that leads to no
-/// start is refused here, as [`rewind`](crate::rewind) refuses it. Takes the question's reaches and kinds.
+/// start is refused here, as [`rewind`](crate::rewind) refuses it. Takes the question's reaches, the items beneath and
+/// the kinds.
 pub fn walk_back<'a>(
     question: &Question<'a>,
     end: &[u8],

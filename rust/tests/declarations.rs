@@ -228,6 +228,7 @@ fn plan(out: &mut String, name: &str, q: &NimskerfQuestion) {
                     q.dup_max,
                     q.swap_max,
                     q.max_len,
+                    q.beneath,
                     q.max_expansions,
                     q.states_without,
                     q.states_with,
@@ -282,6 +283,9 @@ fn plans(out: &mut String) {
     let mut q = question_of(&FIRST, &MENDED);
     (q.max_expansions, q.states_without, q.states_with) = (90, 400, 300);
     plan(out, "climbing", &q);
+    plan(out, "climbing to the stack's end", &NimskerfQuestion { beneath: 1018, ..q });
+    plan(out, "no room to climb", &NimskerfQuestion { beneath: 1019, ..q });
+    plan(out, "stack", &NimskerfQuestion { beneath: 1020, ..q });
     plan(out, "equal", &NimskerfQuestion { goal: FIRST.as_ptr(), ..q });
 }
 
@@ -302,6 +306,7 @@ fn replay(out: &mut String, name: &str, q: &NimskerfQuestion, codes: &[u16]) {
                     q.dup_max,
                     q.swap_max,
                     q.max_len,
+                    q.beneath,
                     q.kinds,
                     q.kinds_len,
                     end,
@@ -345,6 +350,7 @@ fn rewind(out: &mut String, name: &str, q: &NimskerfQuestion, codes: &[u16], pop
                     q.dup_max,
                     q.swap_max,
                     q.max_len,
+                    q.beneath,
                     q.kinds,
                     q.kinds_len,
                     start,
@@ -371,6 +377,10 @@ fn steps_back(out: &mut String) {
     (q.dup_max, q.swap_max, q.max_len) = (2, 3, 3);
     rewind(out, "narrow", &q, &codes, &popped[..3], 22);
     rewind(out, "short", &q, &codes, &popped[..3], 20);
+    q.max_len = 4;
+    for (name, beneath) in [("beneath", 1021), ("full", 1022), ("stack", 1023)] {
+        rewind(out, name, &NimskerfQuestion { beneath, ..q }, &codes, &popped[..3], 22);
+    }
 }
 
 fn mark(out: &mut String, name: &str, q: &NimskerfQuestion, codes: &[u16], ceiling: NimskerfCost) {
@@ -390,6 +400,7 @@ fn mark(out: &mut String, name: &str, q: &NimskerfQuestion, codes: &[u16], ceili
                     q.dup_max,
                     q.swap_max,
                     q.max_len,
+                    q.beneath,
                     q.kinds,
                     q.kinds_len,
                     q.prices,
@@ -421,6 +432,12 @@ fn replays_and_marks(out: &mut String) {
     (q.dup_max, q.swap_max, q.max_len) = (3, 4, 5);
     replay(out, "narrow", &q, &codes[..6]);
     mark(out, "narrow", &q, &codes[..6], dear);
+    q.max_len = 6;
+    for (name, beneath) in [("beneath", 1019), ("full", 1020), ("stack", 1023)] {
+        q.beneath = beneath;
+        replay(out, name, &q, &codes[..6]);
+        mark(out, name, &q, &codes[..6], dear);
+    }
 }
 
 fn packs(out: &mut String) {
@@ -462,7 +479,7 @@ fn desk(out: &mut String) {
     write!(out, "question: start {} goal {} dup_max {}", q.start_len, q.goal_len, q.dup_max).unwrap();
     write!(out, " swap_max {} max_len {} max_expansions {}", q.swap_max, q.max_len, q.max_expansions).unwrap();
     write!(out, " states_without {} states_with {}", q.states_without, q.states_with).unwrap();
-    writeln!(out, " kinds {} prices {}", q.kinds_len, q.prices_len).unwrap();
+    writeln!(out, " kinds {} prices {} beneath {}", q.kinds_len, q.prices_len, q.beneath).unwrap();
     let kinds: String = kinds.iter().map(|kind| format!(" {kind}")).collect();
     let prices: String = prices.chunks(2).map(|pair| format!(" {}/{}", pair[0], pair[1])).collect();
     writeln!(out, "question, kinds:{kinds}\nquestion, prices:{prices}").unwrap();
@@ -480,7 +497,7 @@ fn codes_and_texts(out: &mut String) {
         }
         type Text = unsafe extern "C" fn(u32) -> *const c_char;
         let texts: [(&str, u32, Text); 4] = [
-            ("refusal_text", 12, nimskerf_refusal_text),
+            ("refusal_text", 13, nimskerf_refusal_text),
             ("origin_text", 4, nimskerf_origin_text),
             ("ending_text", 6, nimskerf_ending_text),
             ("mark_text", 3, nimskerf_mark_text),
@@ -521,7 +538,8 @@ fn layouts(out: &mut String) {
             kinds,
             kinds_len,
             prices,
-            prices_len
+            prices_len,
+            beneath
         }
     );
     layout!(out, NimskerfLists { steps, steps_len, nodes, nodes_len, heads, heads_len, open, open_len });
@@ -576,6 +594,7 @@ fn constants_are_the_headers() {
         line.unwrap_or_else(|| panic!("{name} is not listed")).parse::<usize>().expect("a number")
     };
     assert_eq!(nimskerf::MAX_LEN, value("NIMSKERF_MAX_LEN"));
+    assert_eq!(nimskerf::STACK_LEN, value("NIMSKERF_STACK_LEN"));
     assert_eq!(nimskerf::MAX_ALLOWANCE, value("NIMSKERF_MAX_ALLOWANCE"));
     assert_eq!(nimskerf::MIN_STEPS, value("NIMSKERF_MIN_STEPS_LEN"));
     assert_eq!(nimskerf::SPARE_ENTRIES, value("NIMSKERF_SPARE_ENTRIES"));

@@ -2,7 +2,7 @@
 
 use nimskerf::{
     Allowances, Answer, Cost, Ending, Kind, Limits, Lists, Mark, Origin, Plan, Planner, PriceList, Question, Reaches,
-    Refusal, Step, Tables, delete_tail, mark, mark_codes, pack, plan_in, raw, replay, replay_codes, star_swap,
+    Refusal, Step, Tables, delete_tail, mark, mark_codes, pack, plan_in, raw, replay, replay_codes, rewind, star_swap,
 };
 use std::thread;
 
@@ -164,9 +164,9 @@ fn no_highest_window() {
     // Not allowed after growing, then too many keys for max_len.
     for (max_len, refusal, index) in [(21, 8, 2), (0, 6, 0)] {
         let (start, codes) = ([0], [256, 256, 1280]);
-        let replayed = raw::replay(&start, &codes, 16, 17, max_len, kinds, &mut [0; 21], &mut [0; 3]);
+        let replayed = raw::replay(&start, &codes, 16, 17, max_len, 0, kinds, &mut [0; 21], &mut [0; 3]);
         assert_eq!((replayed.refusal, replayed.index, replayed.highest), (refusal, index, 0));
-        let marked = raw::mark(&start, &start, &codes, 16, 17, max_len, kinds, prices, 99, 99);
+        let marked = raw::mark(&start, &start, &codes, 16, 17, max_len, 0, kinds, prices, 99, 99);
         assert_eq!((marked.refusal, marked.index, marked.highest), (refusal, index, 0));
     }
     let planned = |dup_max, start: &[u8]| {
@@ -180,6 +180,138 @@ fn no_highest_window() {
     assert_eq!(planned(0, &[0]), (0, 0, 0));
     assert_eq!(planned(17, &[0]), (1, 0, 0));
     assert_eq!(planned(16, &[64]), (5, 0, 0));
+}
+
+/// An empty window over 1,024 items, then one with room for a key.
+#[test]
+fn the_end_of_the_stack() {
+    let (push, none) = (Step::PushImm(33), Cost::default());
+    let full = Question::new(&[], &[]).with_beneath(1_024);
+    let answer = Planner::new().plan(&full).expect("accepted");
+    assert_eq!((answer.ending, answer.expansions), (Ending::Equal, 0));
+    let plan = answer.plan.expect("the empty plan");
+    assert_eq!((plan.steps.len(), plan.origin, plan.highest), (0, Origin::None, 0));
+    let replayed = replay(&full, &[]).expect("allowed");
+    assert_eq!((replayed.window.len(), replayed.highest), (0, 0));
+    assert_eq!(mark(&full, &[], none).expect("allowed").mark, Mark::Pass);
+    assert_eq!(replay(&full, &[push]), Err(Refusal::Step(0)));
+    assert_eq!(mark(&full, &[push], none), Err(Refusal::Step(0)));
+
+    let one = full.with_beneath(1_023);
+    let replayed = replay(&one, &[push, Step::Pop, push]).expect("allowed");
+    assert_eq!((&replayed.window[..], replayed.highest), (&[33][..], 1));
+    assert_eq!(replay(&one, &[push, push]), Err(Refusal::Step(1)));
+    assert_eq!(mark(&one, &[push, push], none), Err(Refusal::Step(1)));
+    let plan = |goal| Planner::new().plan(&Question::new(&[], goal).with_beneath(1_023));
+    assert_eq!(plan(&[33]).expect("accepted").plan.expect("a plan").steps, [push]);
+    assert_eq!(plan(&[33, 33]), Err(Refusal::Length));
+}
+
+/// On a full stack Pop and Swap are allowed, Dup, PushImm and LoadVal are not; one item fewer, and they are.
+#[test]
+fn steps_on_a_full_stack() {
+    let full = Question::new(&[0, 1], &[]).with_beneath(1_022);
+    for step in [Step::Dup(0), Step::Dup(1), Step::PushImm(33), Step::LoadVal(5)] {
+        assert_eq!(replay(&full, &[step]), Err(Refusal::Step(0)), "{step}");
+        assert_eq!(replay(&full, &[Step::Swap(1), step]), Err(Refusal::Step(1)), "{step}");
+        assert_eq!(mark(&full, &[step], Cost::default()), Err(Refusal::Step(0)), "{step}");
+        assert_eq!(replay(&full.with_beneath(1_021), &[step]).expect("allowed").highest, 3, "{step}");
+    }
+    let steps = [Step::Swap(1), Step::Pop, Step::Dup(0), Step::Pop, Step::LoadVal(5), Step::Swap(1)];
+    let replayed = replay(&full, &steps).expect("allowed");
+    assert_eq!((replayed.window, replayed.popped, replayed.highest), (vec![0, 5], vec![1, 0], 2));
+}
+
+/// The number 12, and what comes before and after it.
+#[test]
+fn stacks_too_tall() {
+    let refused = |question: Question| {
+        let answers = [
+            Planner::new().plan(&question).err(),
+            replay(&question, &[]).err(),
+            mark(&question, &[], Cost::default()).err(),
+            rewind(&question, question.start, &[], &[]).err(),
+        ];
+        answers.map(|refusal| refusal.map_or(0, Refusal::number))
+    };
+    let (empty, short, long) = (Question::new(&[], &[]), Question::new(&[0], &[]), Question::new(&[0; 22], &[]));
+    for beneath in [1_025, 1 << 32, usize::MAX - 1, usize::MAX] {
+        assert_eq!(refused(empty.with_beneath(beneath)), [12; 4], "{beneath}");
+        assert_eq!(refused(short.with_beneath(beneath)), [12; 4], "{beneath}");
+        assert_eq!(refused(long.with_beneath(beneath)), [12; 4], "{beneath}");
+    }
+    assert_eq!(refused(short.with_beneath(1_024)), [12; 4]);
+    assert_eq!(refused(short.with_beneath(1_023)), [0; 4]);
+    assert_eq!(refused(long.with_beneath(1_003)), [12; 4]);
+    assert_eq!(refused(long.with_beneath(1_002)), [6; 4]);
+    assert_eq!(refused(Question::new(&[0; 1_025], &[])), [12; 4]);
+    assert_eq!(refused(Question::new(&[0; 1_024], &[])), [6; 4]);
+    assert_eq!(refused(Question::new(&[64], &[]).with_beneath(usize::MAX)), [5; 4]);
+    assert_eq!(refused(Question::new(&[0], &[64]).with_beneath(1_024)), [5, 12, 5, 12]);
+    let wide = Reaches { max_len: 22, ..WIDE };
+    assert_eq!(refused(long.with_reaches(wide).with_beneath(usize::MAX)), [2; 4]);
+    let low = Reaches { max_len: 0, ..WIDE };
+    assert_eq!(refused(short.with_reaches(low).with_beneath(1_024)), [12; 4]);
+    assert_eq!(refused(short.with_reaches(low).with_beneath(1_023)), [6; 4]);
+}
+
+/// A goal that does not fit over the items beneath: 6 from the planner, no number from marking.
+#[test]
+fn goals_over_the_stack() {
+    let question = Question::new(&[0, 1], &[0, 1, 0]).with_beneath(1_022);
+    let marked = |question: &Question, steps: &[Step]| {
+        mark(question, steps, Cost::new(9, 9)).map(|marked| (marked.mark, marked.highest))
+    };
+    assert_eq!(Planner::new().plan(&question), Err(Refusal::Length));
+    assert_eq!(marked(&question, &[]), Ok((Mark::Elsewhere, 2)));
+    let question = Question::new(&[1, 0], &[0, 1, 0]).with_beneath(1_021);
+    assert_eq!(Planner::new().plan(&question).expect("accepted").plan.expect("a plan").steps, [Step::Dup(1)]);
+    assert_eq!(marked(&question, &[Step::Dup(1)]), Ok((Mark::Pass, 3)));
+    assert_eq!(marked(&question.with_beneath(1_022), &[Step::Dup(1)]), Err(Refusal::Step(0)));
+    // Nor does the goal count for 12.
+    let question = Question::new(&[], &[0, 1]).with_beneath(1_024);
+    assert_eq!(Planner::new().plan(&question), Err(Refusal::Length));
+    assert_eq!(marked(&question, &[]), Ok((Mark::Elsewhere, 0)));
+}
+
+/// Without room to climb the plan is another one: 8 gas and 4 bytes over a window of 3, 11 and 5 within one of 2.
+#[test]
+fn plans_under_the_end_of_the_stack() {
+    let planned = |beneath| {
+        let question = Question::new(&[0, 1], &[0, 33]).with_beneath(beneath);
+        let plan = Planner::new().plan(&question).expect("accepted").plan.expect("a plan");
+        (plan.steps, plan.cost, plan.highest)
+    };
+    let climbing = vec![Step::PushImm(33), Step::Swap(2), Step::Pop];
+    let flat = vec![Step::Swap(1), Step::Pop, Step::PushImm(33), Step::Swap(1)];
+    assert_eq!(planned(0), (climbing.clone(), Cost::new(8, 4), 3));
+    assert_eq!(planned(1_021), (climbing, Cost::new(8, 4), 3));
+    assert_eq!(planned(1_022), (flat, Cost::new(11, 5), 2));
+}
+
+/// The answer over items is that of the smaller `max_len`, if the start fits.
+#[test]
+fn items_narrow_a_planners_window() {
+    let mut planner = Planner::new();
+    for question in questions().into_iter().filter(|question| question.start.iter().all(|&key| key < 64)) {
+        for room in 0..=21 {
+            let over = planner.plan(&question.with_beneath(1_024 - room));
+            let narrow = question.with_reaches(Reaches { max_len: room, ..question.reaches });
+            let expected = if question.start.len() > room { Err(Refusal::Stack) } else { planner.plan(&narrow) };
+            assert_eq!(over, expected, "{question:?} over {}", 1_024 - room);
+            // The smaller of the two counts.
+            assert_eq!(planner.plan(&narrow.with_beneath(1_003)), planner.plan(&narrow));
+        }
+    }
+}
+
+/// Packing's and the builders' calls do not look beneath.
+#[test]
+fn builders_over_items() {
+    let swaps = Question::new(&[0, 1, 2], &[1, 2, 0]).with_beneath(usize::MAX);
+    assert_eq!(star_swap(&swaps), Ok(vec![Step::Swap(2), Step::Swap(1)]));
+    let tail = Question::new(&[0, 1, 2], &[0, 1]).with_beneath(usize::MAX);
+    assert_eq!(delete_tail(&tail), Ok(vec![Step::Swap(2), Step::Pop, Step::Swap(1)]));
 }
 
 #[test]
@@ -300,7 +432,11 @@ fn numbers_and_sentences() {
         Refusal::NoStart.to_string(),
         "refused 11: No start leads through the steps to the end with these keys popped."
     );
-    for number in 1..=11 {
+    assert_eq!(
+        Refusal::Stack.to_string(),
+        "refused 12: The stack is too tall: the items beneath and the window are over 1,024."
+    );
+    for number in 1..=12 {
         let refusal = Refusal::from_number(number, 7).expect("a refusal");
         assert_eq!(refusal.number(), number);
         assert!(refusal.to_string().ends_with('.'), "{refusal}");
@@ -332,6 +468,7 @@ fn defaults() {
     assert_eq!((dup_max, swap_max, max_len), (desk.dup_max, desk.swap_max, desk.max_len));
     assert_eq!((max_expansions, states_without), (desk.max_expansions, desk.states_without));
     assert_eq!(states_with, desk.states_with);
+    assert_eq!((question.beneath, desk.beneath), (0, 0));
     assert_eq!(question.tables.kinds(), kinds);
     assert_eq!(question.tables.prices(), prices);
 }

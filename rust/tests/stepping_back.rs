@@ -21,7 +21,7 @@ fn lists_of_popped_keys() {
     let (start, codes, desk) = ([0, 1, 2], [514, 0, 0, 256], Tables::desk());
     let ask = |codes: &[u16], places: usize| {
         let (mut result, mut popped) = ([99; 21], [99; 6]);
-        let r = raw::replay(&start, codes, 16, 17, 21, desk.kinds(), &mut result, &mut popped[..places]);
+        let r = raw::replay(&start, codes, 16, 17, 21, 0, desk.kinds(), &mut result, &mut popped[..places]);
         (r.refusal, result[..3].to_vec(), popped)
     };
     assert_eq!(ask(&codes, 6), (0, vec![0, 0, 99], [2, 1, 99, 99, 99, 99]));
@@ -38,12 +38,14 @@ fn walks() -> Vec<(Question<'static>, Vec<Step>)> {
     let search = Question::new(&[0, 2], &[0, 0, 3]);
     let tail = Question::new(&[0, 1, 2], &[0]);
     let narrow = Question::new(&[7, 7, 33], &[]).with_reaches(Reaches { dup_max: 2, swap_max: 3, max_len: 4 });
+    let full = Question::new(&[7, 7, 33], &[]).with_beneath(1_020);
     vec![
         (search, vec![Step::LoadVal(3), Step::Swap(2), Step::Pop, Step::Dup(0)]),
         (tail, vec![Step::Swap(2), Step::Pop, Step::Pop]),
         (tail, vec![Step::Dup(0), Step::Swap(3), Step::Pop, Step::Pop, Step::Pop]),
         (narrow, vec![Step::Dup(1), Step::Swap(2), Step::Pop, Step::PushImm(63), Step::Pop, Step::Pop, Step::Pop]),
         (narrow, vec![Step::Pop, Step::Swap(1), Step::Pop, Step::Pop, Step::PushImm(32), Step::LoadVal(31)]),
+        (full, vec![Step::Dup(2), Step::Swap(3), Step::Pop, Step::PushImm(63), Step::Pop, Step::LoadVal(31)]),
         (tail, vec![]),
     ]
 }
@@ -140,7 +142,7 @@ fn no_start() {
 /// The lower refusals of stepping back, each beside all that come after it.
 #[test]
 fn refusals_of_stepping_back() {
-    let wide = Question::new(&[64; 30], &[64; 30]);
+    let wide = Question::new(&[64; 30], &[64; 30]).with_beneath(1_024);
     let small = wide.with_reaches(Reaches { max_len: 1, ..Reaches::default() });
     let two_zeros = Tables::new(
         &[Kind::Zero; 64],
@@ -165,19 +167,71 @@ fn refusals_of_stepping_back() {
     assert_eq!(refused(small.with_tables(&two_zeros), &[64, 0], &most, &[64]), Some(Refusal::Table));
     assert_eq!(refused(small, &[64, 0], &most, &[]), Some(Refusal::Key));
     assert_eq!(refused(small, &[0, 0], &[], &[64]), Some(Refusal::Key));
+    assert_eq!(refused(small, &[0, 0], &most, &[]), Some(Refusal::Stack));
+    let small = small.with_beneath(1_022);
     assert_eq!(refused(small, &[0, 0], &most, &[]), Some(Refusal::Length));
     assert_eq!(refused(small, &[0], &most, &[]), Some(Refusal::NoStart));
     assert_eq!(refused(small, &[0], &[], &[]), None);
+}
+
+/// Over items: the end must fit, then the start and every window on the way.
+#[test]
+fn starts_over_items() {
+    let question = Question::new(&[], &[]);
+    let back = |beneath, end: &[u8], steps: &[Step], popped: &[u8]| {
+        let question = question.with_beneath(beneath);
+        let start = rewind(&question, end, steps, popped);
+        let walked = walk_back(&question, end, steps, popped).map(|walk| walk.start().to_vec());
+        assert_eq!(walked, start);
+        start
+    };
+    let (pop, push) = (Step::Pop, Step::PushImm(33));
+    // The start is as long as the end and the Pops less the pushes.
+    assert_eq!(back(1_021, &[0, 1], &[pop], &[5]), Ok(vec![5, 0, 1]));
+    assert_eq!(back(1_022, &[0, 1], &[pop], &[5]), Err(Refusal::NoStart));
+    assert_eq!(back(1_023, &[0, 1], &[pop], &[5]), Err(Refusal::Stack));
+    assert_eq!(back(1_022, &[33, 1], &[push], &[]), Ok(vec![1]));
+    assert_eq!(back(1_023, &[33, 1], &[push], &[]), Err(Refusal::Stack));
+    // A push before a Pop needs room, a Pop before a push makes it.
+    assert_eq!(back(1_021, &[0, 1], &[push, pop], &[33]), Ok(vec![0, 1]));
+    assert_eq!(back(1_022, &[0, 1], &[push, pop], &[33]), Err(Refusal::NoStart));
+    assert_eq!(back(1_022, &[33, 1], &[pop, push], &[5]), Ok(vec![5, 1]));
+    // Dup and LoadVal, Swap.
+    assert_eq!(back(1_022, &[1, 1], &[Step::Dup(0)], &[]), Ok(vec![1]));
+    assert_eq!(back(1_022, &[5, 1], &[Step::LoadVal(5)], &[]), Ok(vec![1]));
+    assert_eq!(back(1_022, &[5, 1], &[Step::Swap(1)], &[]), Ok(vec![1, 5]));
+    // Empty windows.
+    assert_eq!(back(1_024, &[], &[], &[]), Ok(vec![]));
+    assert_eq!(back(1_024, &[], &[pop], &[5]), Err(Refusal::NoStart));
+    assert_eq!(back(1_023, &[], &[pop], &[5]), Ok(vec![5]));
+    for beneath in [1_025, usize::MAX] {
+        assert_eq!(back(beneath, &[], &[], &[]), Err(Refusal::Stack));
+        assert_eq!(back(beneath, &[0], &[pop], &[64]), Err(Refusal::Key));
+    }
+}
+
+/// A walk over items ends where it began, and none begins that replay refuses.
+#[test]
+fn retracing_over_items() {
+    let question = Question::new(&[0, 1], &[]).with_beneath(1_021);
+    let walk = retrace(&question, &[Step::PushImm(33), Step::Swap(2), Step::Pop]).expect("allowed");
+    assert_eq!((walk.window(), walk.start()), (&[0, 33][..], &[0, 1][..]));
+    let windows: Vec<_> = walk.map(|back| back.window).collect();
+    assert_eq!(windows, [vec![1, 0, 33], vec![33, 0, 1], vec![0, 1]]);
+    assert_eq!(retrace(&question.with_beneath(1_022), &[Step::PushImm(33)]).err(), Some(Refusal::Step(0)));
+    assert_eq!(retrace(&question.with_beneath(1_023), &[]).err(), Some(Refusal::Stack));
 }
 
 /// Under the typed interface: the result list of stepping back, and what it holds after.
 #[test]
 fn lists_of_stepping_back() {
     let desk = Tables::desk();
-    for (places, popped, refusal) in [(20, 1, 7), (21, 1, 11), (21, 0, 0)] {
+    for (places, popped, beneath, refusal) in
+        [(20, 1, 1_023, 12), (20, 1, 0, 7), (21, 1, 0, 11), (21, 0, 0, 0), (21, 0, 1_022, 0), (21, 0, 1_023, 12)]
+    {
         let mut result = [99; 22];
         let keys = &[0][..popped];
-        let rewound = raw::rewind(&[3, 4], &[513], keys, 16, 17, 21, desk.kinds(), &mut result[..places]);
+        let rewound = raw::rewind(&[3, 4], &[513], keys, 16, 17, 21, beneath, desk.kinds(), &mut result[..places]);
         assert_eq!(rewound.refusal, refusal);
         let (length, start) = if refusal == 0 { (2, [4, 3, 99]) } else { (0, [99; 3]) };
         assert_eq!((rewound.length, &result[..3]), (length, &start[..]));

@@ -12,6 +12,7 @@ use Rattle.costs.specs.Choice.{_if_otherwise_}
 use Rattle.costs.specs.Laws.{or-left}
 use Rattle.costs.specs.Table.{kindsFault}
 use Rattle.replay.specs.Machine.{Rules, rules, room, immediate, ranOn, after, ends}
+use Rattle.replay.specs.Beneath.{narrowed}
 use Rattle.replay.specs.Replay.{replayRefusal, replayed, replayedTo}
 use Rattle.replay.specs.Laws.{replayed-to}
 use Rattle.star_swap.specs.Star.{run, pick, trailLoop, trail, lastOf, circuits, misplaced, starSwaps, code, codes}
@@ -41,10 +42,10 @@ module _ (q : Rules) (start goal : List ℕ) where
       let r = written-read (tailRefusal (q .swapMax) start goal (length old)) (deleteTail start goal) old h in
       ap (λ (l : List ℕ). ranOn q 0 l start) (r .1) ∙ delete-tail-reaches (length old) (r .0)
 
-  -- and as replay answers it, for rules that replay accepts
-  pub delete-tail-replayed : (places : ℕ) (result popped : List ℕ) → tailRefusal (q .swapMax) start goal places ≡ 0 → replayRefusal q start (length (deleteTail start goal)) (length result) (length popped) ≡ 0 →
-      replayed q start (deleteTail start goal) result popped ≡ replayedTo q start (deleteTail start goal) goal result popped
-  delete-tail-replayed places result popped h a = replayed-to q start (deleteTail start goal) goal result popped a (delete-tail-reaches places h)
+-- and as replay answers it, for rules that replay accepts, whatever lies beneath
+pub delete-tail-replayed : (q : Rules) (start goal : List ℕ) (places : ℕ) (result popped : List ℕ) → tailRefusal (q .swapMax) start goal places ≡ 0 → replayRefusal q start (length (deleteTail start goal)) (length result) (length popped) ≡ 0 →
+    replayed q start (deleteTail start goal) result popped ≡ replayedTo q start (deleteTail start goal) goal result popped
+delete-tail-replayed q start goal places result popped h a = replayed-to q start (deleteTail start goal) goal result popped a (delete-tail-reaches (narrowed q) start goal places h)
 
 -- at most 72 steps, so the least step list holds them
 pub delete-tail-few : (sm : ℕ) (start goal : List ℕ) → IsTail sm start goal → length (deleteTail start goal) ≤ 72

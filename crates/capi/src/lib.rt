@@ -10,7 +10,7 @@ ghost use mathlib.Core.Path.{_≡_};
 ghost use lib.ListN.{length};
 ghost use Rattle.costs.specs.Table.{countOf};
 ghost use Rattle.window.specs.Packing.{packing};
-ghost use Rattle.replay.specs.Machine.{rules};
+ghost use Rattle.replay.specs.Machine.{rules, above};
 ghost use Rattle.replay.specs.Replay.{replayed};
 ghost use Rattle.rewind.specs.Rewind.{rewound};
 ghost use Rattle.rewind.specs.Led.{SteppedBack};
@@ -27,6 +27,7 @@ pub extern "C" fn nimskerf_proved_plan(
     dup_max: usize,
     swap_max: usize,
     max_len: usize,
+    beneath: usize,
     max_expansions: usize,
     states_without: usize,
     states_with: usize,
@@ -38,7 +39,7 @@ pub extern "C" fn nimskerf_proved_plan(
     list: &mut [u64],
 ) -> Answer
     ensures { λ r. ⌜ (r, now (steps .exit)) ≡ plannedFor
-        (asked (rules «dup_max» «swap_max» «max_len» (now (kinds .entry))) (now (prices .entry)) (now (start .entry)) (now (goal .entry)) (allowances «max_expansions» «states_without» «states_with»))
+        (asked (above beneath (rules «dup_max» «swap_max» «max_len» (now (kinds .entry)))) (now (prices .entry)) (now (start .entry)) (now (goal .entry)) (allowances «max_expansions» «states_without» «states_with»))
         (lent (length (now (steps .entry))) (length (now (nodes .entry))) (length (now (heads .entry))) (length (now (list .entry))))
         (now (steps .entry)) ⌝ }
     ensures { λ r. ⌜ WorkKept (r .refusal) (now (nodes .entry)) (now (nodes .exit)) × WorkKept (r .refusal) (now (heads .entry)) (now (heads .exit)) × WorkKept (r .refusal) (now (list .entry)) (now (list .exit)) ⌝ }
@@ -49,6 +50,7 @@ pub extern "C" fn nimskerf_proved_plan(
         dup_max,
         swap_max,
         max_len,
+        beneath,
         max_expansions,
         states_without,
         states_with,
@@ -68,11 +70,12 @@ pub extern "C" fn nimskerf_proved_replay(
     dup_max: usize,
     swap_max: usize,
     max_len: usize,
+    beneath: usize,
     kinds: &[u8],
     result: &mut [u8],
     popped: &mut [u8],
 ) -> Replayed
-    ensures { λ r. ⌜ (r, now (result .exit), now (popped .exit)) ≡ replayed (rules «dup_max» «swap_max» «max_len» (now (kinds .entry))) (now (start .entry)) (now (steps .entry)) (now (result .entry)) (now (popped .entry)) ⌝ }
+    ensures { λ r. ⌜ (r, now (result .exit), now (popped .exit)) ≡ replayed (above beneath (rules «dup_max» «swap_max» «max_len» (now (kinds .entry)))) (now (start .entry)) (now (steps .entry)) (now (result .entry)) (now (popped .entry)) ⌝ }
 {
     replay::replay(
         start,
@@ -80,6 +83,7 @@ pub extern "C" fn nimskerf_proved_replay(
         dup_max,
         swap_max,
         max_len,
+        beneath,
         kinds,
         result,
         popped,
@@ -94,11 +98,12 @@ pub extern "C" fn nimskerf_proved_rewind(
     dup_max: usize,
     swap_max: usize,
     max_len: usize,
+    beneath: usize,
     kinds: &[u8],
     result: &mut [u8],
 ) -> Rewound
-    ensures { λ r. ⌜ (r, now (result .exit)) ≡ rewound (rules «dup_max» «swap_max» «max_len» (now (kinds .entry))) (now (end .entry)) (now (steps .entry)) (now (popped .entry)) (now (result .entry)) ⌝ }
-    ensures { λ r. ⌜ SteppedBack (rules «dup_max» «swap_max» «max_len» (now (kinds .entry))) (now (end .entry)) (now (steps .entry)) (now (popped .entry)) (now (result .entry)) (r, now (result .exit)) ⌝ }
+    ensures { λ r. ⌜ (r, now (result .exit)) ≡ rewound (above beneath (rules «dup_max» «swap_max» «max_len» (now (kinds .entry)))) (now (end .entry)) (now (steps .entry)) (now (popped .entry)) (now (result .entry)) ⌝ }
+    ensures { λ r. ⌜ SteppedBack (above beneath (rules «dup_max» «swap_max» «max_len» (now (kinds .entry)))) (now (end .entry)) (now (steps .entry)) (now (popped .entry)) (now (result .entry)) (r, now (result .exit)) ⌝ }
 {
     rewind::rewind(
         end,
@@ -107,6 +112,7 @@ pub extern "C" fn nimskerf_proved_rewind(
         dup_max,
         swap_max,
         max_len,
+        beneath,
         kinds,
         result,
     )
@@ -127,12 +133,13 @@ pub extern "C" fn nimskerf_proved_mark(
     dup_max: usize,
     swap_max: usize,
     max_len: usize,
+    beneath: usize,
     kinds: &[u8],
     prices: &[u32],
     ceiling_gas: u32,
     ceiling_bytes: u32,
 ) -> Marked
-    ensures { λ r. ⌜ r ≡ marked (rules «dup_max» «swap_max» «max_len» (now (kinds .entry))) (now (prices .entry)) (now (start .entry)) (now (goal .entry)) (now (steps .entry)) (ceiling «ceiling_gas» «ceiling_bytes») ⌝ }
+    ensures { λ r. ⌜ r ≡ marked (above beneath (rules «dup_max» «swap_max» «max_len» (now (kinds .entry)))) (now (prices .entry)) (now (start .entry)) (now (goal .entry)) (now (steps .entry)) (ceiling «ceiling_gas» «ceiling_bytes») ⌝ }
 {
     marking::mark(
         start,
@@ -141,6 +148,7 @@ pub extern "C" fn nimskerf_proved_mark(
         dup_max,
         swap_max,
         max_len,
+        beneath,
         kinds,
         prices,
         ceiling_gas,

@@ -10,16 +10,18 @@ use native.Mathlib.Omega.{arith}
 use Rattle.costs.specs.Choice.{_if_otherwise_}
 use Rattle.costs.specs.declared.Cost.{Cost}
 use Rattle.replay.specs.Machine.{Rules, rules}
+use Rattle.replay.specs.Beneath.{narrowed, alone}
 use Rattle.astar.specs.Planner.{Found}
 use Rattle.planner.specs.declared.Answer.{Answer}
-use Rattle.planner.specs.Refusal.{Asked, Lent, asked, allowances, lent, planRefusal}
-use Rattle.planner.specs.Planned.{answered, fieldsOf, refused, stepsWith, plannedFor}
+use Rattle.planner.specs.Refusal.{Asked, Lent, asked, allowances, lent, narrow, planRefusal}
+use Rattle.planner.specs.Planned.{answered, fieldsOf, refused, stepsWith, given, plannedOn, plannedFor}
 use Rattle.planner.specs.Accepted.{accepted}
 use Rattle.planner.specs.Sound.{plan-sound}
+use Rattle.planner.specs.Before.{planned-before}
 use Rattle.desk_text.specs.Tables.{deskKinds, deskPrices}
 use Rattle.desk_text.specs.declared.read.Limits.{Limits}
 
--- the planner's question: what was read, with the desk's kinds and price list
+-- the planner's question: what was read, with the desk's kinds and price list and nothing beneath the window
 abbrev pub deskQuestion : Limits → List ℕ → List ℕ → Asked
 deskQuestion l start goal =
     asked (rules (l .«dup_max») (l .«swap_max») (l .«max_len») deskKinds) deskPrices start goal
@@ -42,6 +44,12 @@ pub plan-is : (l : Limits) (start goal steps two kinds prices : List ℕ) (n h o
 unfolding planning
 plan-is l start goal steps two kinds prices n h o a k p x y z e = rw (k, p, x, y, z) at e
 
+-- old answers remain: the desk has nothing beneath the window (request U3)
+pub planning-before : (l : Limits) (start goal steps : List ℕ) → length start ≤ 1024 →
+    planning l start goal steps ≡ plannedOn (alone (deskQuestion l start goal .rules)) (deskQuestion l start goal) (deskLent (length steps)) steps
+unfolding planning
+planning-before l start goal steps h = planned-before (deskQuestion l start goal) (deskLent (length steps)) steps refl h
+
 -- ---- a plan has room in the step list that was lent
 
 few-steps : (q : Rules) (start : List ℕ) (o : Option (Found Cost ℕ)) (e x n : ℕ) → ((p : Found Cost ℕ) → o ≡ some p → length (p .steps) ≤ n) → fieldsOf q start o e x .«step_count» ≤ n
@@ -60,30 +68,30 @@ by-choice P x y false p q = q
 
 module _ (a : Asked) (l : Lent) where
   -- an accepted answer, and a refusal
-  abbrev given : List ℕ → Answer × List ℕ
-  given xs = (fieldsOf (a .rules) (a .start) (answered a .plan) (answered a .ending) (answered a .expansions), stepsWith (answered a .plan) xs)
+  abbrev is-given : List ℕ → Answer × List ℕ
+  is-given xs = given (narrowed (a .rules)) (a .start) (answered (narrow a)) xs
 
   abbrev not-given : List ℕ → Answer × List ℕ
   not-given xs = (refused (planRefusal a l), xs)
 
   -- row 7 leaves a place for each step
-  plan-fits : T (eqb (planRefusal a l) 0) → (p : Found Cost ℕ) → answered a .plan ≡ some p → length (p .steps) ≤ l .steps
+  plan-fits : T (eqb (planRefusal a l) 0) → (p : Found Cost ℕ) → answered (narrow a) .plan ≡ some p → length (p .steps) ≤ l .steps
   plan-fits t p f =
       let ok = accepted a l (eqb→eq (planRefusal a l) 0 t) in
-      omega (arith, plan-sound a l ok p f .few, ok .steps)
+      omega (arith, plan-sound (narrow a) l ok p f .few, ok .steps)
 
   answer-count : (xs : List ℕ) → plannedFor a l xs .0 .«step_count» ≤ l .steps
-  unfolding plannedFor
+  unfolding plannedOn
   answer-count xs =
-      by-choice (λ (t : Answer × List ℕ). t .0 .«step_count» ≤ l .steps) (given xs) (not-given xs) (eqb (planRefusal a l) 0)
-      (λ t. few-steps (a .rules) (a .start) (answered a .plan) (answered a .ending) (answered a .expansions) (l .steps) (plan-fits t))
+      by-choice (λ (t : Answer × List ℕ). t .0 .«step_count» ≤ l .steps) (is-given xs) (not-given xs) (eqb (planRefusal a l) 0)
+      (λ t. few-steps (narrowed (a .rules)) (a .start) (answered (narrow a) .plan) (answered (narrow a) .ending) (answered (narrow a) .expansions) (l .steps) (plan-fits t))
       (omega arith)
 
   answer-places : (xs : List ℕ) → l .steps ≡ length xs → length (plannedFor a l xs .1) ≡ length xs
-  unfolding plannedFor
+  unfolding plannedOn
   answer-places xs e =
-      by-choice (λ (t : Answer × List ℕ). length (t .1) ≡ length xs) (given xs) (not-given xs) (eqb (planRefusal a l) 0)
-      (λ t. same-places (answered a .plan) xs (λ p f. omega (arith, plan-fits t p f)))
+      by-choice (λ (t : Answer × List ℕ). length (t .1) ≡ length xs) (is-given xs) (not-given xs) (eqb (planRefusal a l) 0)
+      (λ t. same-places (answered (narrow a) .plan) xs (λ p f. omega (arith, plan-fits t p f)))
       refl
 
 pub planned-count : (l : Limits) (start goal steps : List ℕ) → planning l start goal steps .0 .«step_count» ≤ length steps

@@ -6,6 +6,7 @@ use lib.ListN.{replicate}
 use Rattle.costs.specs.declared.Cost.{Cost}
 use Rattle.costs.specs.Cost.{plus, noMore}
 use Rattle.costs.specs.Step.{decoded}
+use Rattle.replay.specs.Beneath.{narrowed, tooTall, windowAbove}
 use Rattle.replay.specs.Machine.{rules, room, immediate, allows, after, passes, highest}
 use Rattle.replay.specs.Replay.{reachFault}
 use Rattle.star_swap.specs.Star.{pick, trailLoop, trail, lastOf, circuits, misplaced, starSwaps}
@@ -16,10 +17,10 @@ use Rattle.builders.specs.Tail.{bury, pops, uncovered, deleteTail, begins, notT
 use Rattle.incumbent.specs.Flush.{sameFrom, commonSuffix, withPops, withKeys, flushCost}
 use Rattle.incumbent.specs.Hand.{Held, inHand}
 use Rattle.astar.specs.Planner.{Answer as Answered}
-use Rattle.planner.specs.Refusal.{allowanceFault, overLength, shortLists, planRefusal}
-use Rattle.planner.specs.Planned.{planHeld}
+use Rattle.planner.specs.Refusal.{allowanceFault, overLength, shortLists, planTable, planRefusal, narrow}
+use Rattle.planner.specs.Planned.{planHeld, given}
 use Rattle.planner.specs.declared.Answer.{Answer}
-use Rattle.planner.specs.Cases.{no-expansion, when-accepted, given}
+use Rattle.planner.specs.Cases.{no-expansion, when-accepted}
 use Rattle.desk_text.specs.Tables.{table, deskKind, keyPrice, deskPair, deskPrice, deskKinds, deskPrices, desk-kinds, desk-prices}
 use Rattle.desk_text.specs.Question.{questionOf, limitsOf}
 use Rattle.desk_text.specs.Worked.{the-example, the-answer}
@@ -42,7 +43,7 @@ unfolding inHand flushCost withKeys withPops commonSuffix sameFrom dupAndStar fi
 held = refl
 
 accepted : planRefusal (deskQuestion limits start goal) (deskLent 1000) ≡ 0
-unfolding planRefusal reachFault allowanceFault overLength shortLists
+unfolding planTable tooTall windowAbove reachFault allowanceFault overLength shortLists
 accepted = rw (desk-kinds, desk-prices)
 
 -- the planner's answer to it
@@ -63,12 +64,12 @@ answer =
     }
 
 planned-so : planning limits start goal zeros ≡ (answer, 514 ∷ 0 ∷ 0 ∷ replicate 997 0)
-unfolding planning zeros highest passes allows after decoded
+unfolding planning windowAbove zeros highest passes allows after decoded
 planned-so =
     let a = deskQuestion limits start goal in
     when-accepted a (deskLent 1000) (replicate 1000 0) accepted
-    ∙ ap (λ (r : Answered Cost ℕ). given (a .rules) start r (replicate 1000 0))
-    (no-expansion a refl refl ∙ ap (λ (h : Held). record { plan = planHeld h; ending = 1; expansions = 0 }) held)
+    ∙ ap (λ (r : Answered Cost ℕ). given (narrowed (a .rules)) start r (replicate 1000 0))
+    (no-expansion (narrow a) refl refl ∙ ap (λ (h : Held). record { plan = planHeld h; ending = 1; expansions = 0 }) held)
 
 -- document 01's example ("Input")
 pub example : deskAnswer (questionOf (49 ∷ 54 ∷ 32 ∷ 49 ∷ 55 ∷ 32 ∷ 50 ∷ 49 ∷ 32 ∷ 48 ∷ 32 ∷ 49 ∷ 48 ∷ 48 ∷ 48 ∷ 32 ∷ 49 ∷ 48 ∷ 48 ∷ 48 ∷ 10 ∷ 48 ∷ 32 ∷ 49 ∷ 32 ∷ 50 ∷ 10 ∷ 48 ∷ [])) ≡ 49 ∷ 32 ∷ 51 ∷ 32 ∷ 55 ∷ 32 ∷ 51 ∷ 32 ∷ 55 ∷ 32 ∷ 51 ∷ 32 ∷ 49 ∷ 32 ∷ 49 ∷ 32 ∷ 48 ∷ 32 ∷ 51 ∷ 10 ∷ 115 ∷ 119 ∷ 97 ∷ 112 ∷ 32 ∷ 50 ∷ 10 ∷ 112 ∷ 111 ∷ 112 ∷ 10 ∷ 112 ∷ 111 ∷ 112 ∷ 10 ∷ []

@@ -88,6 +88,7 @@ fn planned(limits: Limits, start: &[u8], goal: &[u8], steps: &mut [u16]) -> Answ
         limits.dup_max,
         limits.swap_max,
         limits.max_len,
+        0,
         limits.max_expansions,
         limits.states_without,
         limits.states_with,

@@ -10,6 +10,7 @@ use lib.ListN.{length, getD}
 use Rattle.costs.specs.Laws.{or-left, passed, kinds-length}
 use Rattle.costs.specs.Table.{anyOver, kindsFault, pricesFault}
 use Rattle.replay.specs.Machine.{Rules, ruled}
+use Rattle.replay.specs.Beneath.{narrowed, tooTall, narrowed-most}
 use Rattle.replay.specs.declared.SearchCfg.{SearchCfg}
 use Rattle.replay.specs.Replay.{reachFault}
 use Rattle.replay.specs.Steps.{over-get}
@@ -21,7 +22,7 @@ use Rattle.run.specs.View.{allowance, Roomy}
 use Rattle.run.specs.declared.Limits.{Limits}
 use Rattle.table.specs.Table as search
 use Rattle.solve.specs.View.{StartFits}
-use Rattle.planner.specs.Refusal.{Asked, Lent, allowanceFault, overLength, tooLong, entries, shortLists, planRefusal}
+use Rattle.planner.specs.Refusal.{Asked, Lent, narrow, allowanceFault, overLength, tooLong, entries, shortLists, planTable, planRefusal}
 use Rattle.planner.specs.Planned.{questionOf}
 
 pub record Accepted (a : Asked) (l : Lent) : Type 0 where
@@ -62,48 +63,65 @@ within-length q w h =
     let n = neither (ltb (q .swapMax) (length w)) (ltb (q .maxLen) (length w)) h in
     (ltb-false _ _ (n .0), ltb-false _ _ (n .1))
 
-pub accepted : (a : Asked) (l : Lent) → planRefusal a l ≡ 0 → Accepted a l
-unfolding planRefusal allowanceFault shortLists
-accepted a l h =
+-- what it tells of the whole stack, and of max_len as it was given
+pub record Stands (a : Asked) : Type 0 where
+  pub given : ltb 21 (a .rules .maxLen) ≡ false
+  pub stack : tooTall (a .rules .beneath) (length (a .start)) ≡ false
+
+-- the rows of the table, read
+rows : (a : Asked) (l : Lent) → planRefusal a l ≡ 0 → Accepted (narrow a) l × Stands a
+unfolding planTable allowanceFault shortLists
+rows a l h =
     let A = a .allowance in
     let one = passed 0 (reachFault (a .rules .dupMax) (a .rules .swapMax)) _ h in
     let two = passed 1 (ltb 21 (a .rules .maxLen)) _ (one .1) in
     let three = passed 2 (ltb 65536 (A .expansions) || (ltb 65536 (A .states-without) || ltb 65536 (A .states-with))) _ (two .1) in
     let four = passed 3 (kindsFault (a .rules .kinds) || pricesFault (a .prices)) _ (three .1) in
     let five = passed 4 (anyOver 63 (a .start) || anyOver 63 (a .goal)) _ (four .1) in
-    let six = passed 5 (tooLong (a .rules) (a .start) || tooLong (a .rules) (a .goal)) _ (five .1) in
+    let twelve = passed 11 (tooTall (a .rules .beneath) (length (a .start))) _ (five .1) in
+    let q = narrowed (a .rules) in
+    let six = passed 5 (tooLong q (a .start) || tooLong q (a .goal)) _ (twelve .1) in
     let seven = passed 6 (ltb (l .nodes / 8) (entries A) || (ltb (l .heads) (entries A) || (ltb (l .list / 4) (entries A) || ltb (l .steps) (max 128 (A .expansions))))) 0 (six .1) in
     let r = reaches _ _ (one .0) in
     let x = neither (ltb 65536 (A .expansions)) (ltb 65536 (A .states-without) || ltb 65536 (A .states-with)) (three .0) in
     let y = neither (ltb 65536 (A .states-without)) (ltb 65536 (A .states-with)) (x .1) in
     let t = neither (kindsFault (a .rules .kinds)) (pricesFault (a .prices)) (four .0) in
     let k = neither (anyOver 63 (a .start)) (anyOver 63 (a .goal)) (five .0) in
-    let g = neither (tooLong (a .rules) (a .start)) (tooLong (a .rules) (a .goal)) (six .0) in
-    let gs = within-length (a .rules) (a .start) (g .0) in
-    let gg = within-length (a .rules) (a .goal) (g .1) in
+    let g = neither (tooLong q (a .start)) (tooLong q (a .goal)) (six .0) in
+    let gs = within-length q (a .start) (g .0) in
+    let gg = within-length q (a .goal) (g .1) in
     let s1 = neither (ltb (l .nodes / 8) (entries A)) (ltb (l .heads) (entries A) || (ltb (l .list / 4) (entries A) || ltb (l .steps) (max 128 (A .expansions)))) (seven .0) in
     let s2 = neither (ltb (l .heads) (entries A)) (ltb (l .list / 4) (entries A) || ltb (l .steps) (max 128 (A .expansions))) (s1 .1) in
-    let s3 = neither (ltb (l .list / 4) (entries A)) (ltb (l .steps) (max 128 (A .expansions))) (s2 .1) in
-    record {
-      dup = r .0;
-      swap = r .1;
-      window = ltb-false _ _ (two .0);
-      expansions = ltb-false _ _ (x .0);
-      states-without = ltb-false _ _ (y .0);
-      states-with = ltb-false _ _ (y .1);
-      kinds = t .0;
-      prices = t .1;
-      start-keys = k .0;
-      goal-keys = k .1;
-      start-reach = gs .0;
-      start-fits = gs .1;
-      goal-reach = gg .0;
-      goal-fits = gg .1;
-      nodes = ltb-false _ _ (s1 .0);
-      heads = ltb-false _ _ (s2 .0);
-      list = ltb-false _ _ (s3 .0);
-      steps = ltb-false _ _ (s3 .1);
-    }
+    let s3 = neither (ltb (l .list / 4) (entries A)) (ltb (l .steps) (max 128 (A .expansions))) (s2 .1) in (
+      record {
+        dup = r .0;
+        swap = r .1;
+        window = omega (arith, narrowed-most (a .rules), ltb-false 21 (a .rules .maxLen) (two .0));
+        expansions = ltb-false _ _ (x .0);
+        states-without = ltb-false _ _ (y .0);
+        states-with = ltb-false _ _ (y .1);
+        kinds = t .0;
+        prices = t .1;
+        start-keys = k .0;
+        goal-keys = k .1;
+        start-reach = gs .0;
+        start-fits = gs .1;
+        goal-reach = gg .0;
+        goal-fits = gg .1;
+        nodes = ltb-false _ _ (s1 .0);
+        heads = ltb-false _ _ (s2 .0);
+        list = ltb-false _ _ (s3 .0);
+        steps = ltb-false _ _ (s3 .1);
+      },
+      record { given = two .0; stack = twelve .0 },
+    )
+
+-- an accepted question is worked out with the narrowed rules
+pub accepted : (a : Asked) (l : Lent) → planRefusal a l ≡ 0 → Accepted (narrow a) l
+accepted a l h = rows a l h .0
+
+pub stands : (a : Asked) (l : Lent) → planRefusal a l ≡ 0 → Stands a
+stands a l h = rows a l h .1
 
 -- the keys of a list with none over 63
 pub keys-below : (w : List ℕ) → anyOver 63 w ≡ false → Keys 6 w

@@ -11,6 +11,7 @@ use lib.ListN.{length, take, drop, length-take, take-append-drop}
 use Rattle.costs.specs.Choice.{_if_otherwise_}
 use Rattle.costs.specs.declared.Cost.{Cost}
 use Rattle.replay.specs.Machine.{Rules, highest}
+use Rattle.replay.specs.Beneath.{narrowed}
 use Rattle.replay.specs.Highest.{highest-none}
 use Rattle.window.specs.Pack.{pack}
 use Rattle.algebra.specs.GasBytes.{gas-bytes}
@@ -25,8 +26,8 @@ use Rattle.solve.specs.declared.Outcome.{Outcome}
 use Rattle.incumbent.specs.Hand.{Held, heldOf, handOf}
 use Rattle.incumbent.specs.Laws.{hand-bound, hand-origin, hand-steps}
 use Rattle.incumbent.specs.declared.Hand.{Hand}
-use Rattle.planner.specs.Refusal.{Asked, Lent, planRefusal}
-use Rattle.planner.specs.Planned.{questionOf, listed, planHeld, before, answered, bareOf, fieldsOf, refused, stepsWith, plannedFor, WorkKept}
+use Rattle.planner.specs.Refusal.{Asked, Lent, narrow, planRefusal}
+use Rattle.planner.specs.Planned.{questionOf, listed, planHeld, before, answered, bareOf, fieldsOf, refused, stepsWith, given, plannedOn, plannedFor, WorkKept}
 use Rattle.planner.specs.declared.Answer.{Answer}
 
 -- the plan of no steps
@@ -47,21 +48,17 @@ module _ (a : Asked) where
   unfolding answered planned
   by-search h n = rw (h, ne-eqb (a .allowance .expansions) 0 n)
 
--- an answer's fields and its step list
-abbrev pub given : Rules → (start : List ℕ) → Answered Cost ℕ → List ℕ → Answer × List ℕ
-given q start r old = (fieldsOf q start (r .plan) (r .ending) (r .expansions), stepsWith (r .plan) old)
-
 -- without a step the highest window is the start
 pub still : (q : Rules) (start : List ℕ) → bareOf 0 1 0 0 (length start) ≡ fieldsOf q start (some noSteps) 0 0
 still q start = ap (bareOf 0 1 0 0) (sym (highest-none q start))
 
 -- a refused call, and an accepted one
 pub when-refused : (a : Asked) (l : Lent) (steps : List ℕ) (n : ℕ) → n ≡ planRefusal a l → (n ≡ 0 → ⊥) → plannedFor a l steps ≡ (refused n, steps)
-unfolding plannedFor
+unfolding plannedOn
 when-refused a l steps n e h = rw (← e, ne-eqb n 0 h)
 
-pub when-accepted : (a : Asked) (l : Lent) (steps : List ℕ) → planRefusal a l ≡ 0 → plannedFor a l steps ≡ given (a .rules) (a .start) (answered a) steps
-unfolding plannedFor
+pub when-accepted : (a : Asked) (l : Lent) (steps : List ℕ) → planRefusal a l ≡ 0 → plannedFor a l steps ≡ given (narrowed (a .rules)) (a .start) (answered (narrow a)) steps
+unfolding plannedOn
 when-accepted a l steps e = rw e
 
 -- the builders' plan given out: none at origin 0

@@ -6,3 +6,4 @@ pub mod Sound
 pub mod Marks
 pub mod Called
 pub mod Cases
+pub mod Before

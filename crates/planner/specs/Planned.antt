@@ -10,12 +10,13 @@ use Rattle.costs.specs.declared.Cost.{Cost}
 use Rattle.costs.specs.Price.{priceOf}
 use Rattle.costs.specs.Step.{decoded}
 use Rattle.replay.specs.Machine.{Rules, highest}
+use Rattle.replay.specs.Beneath.{Footing}
 use Rattle.algebra.specs.GasBytes.{gas-bytes}
 use Rattle.astar.specs.Planner.{Found, Answer as Answered, planned}
 use Rattle.successors.specs.Successors.{Question}
 use Rattle.problem.specs.Problem.{problemOf}
 use Rattle.incumbent.specs.Hand.{Held, inHand}
-use Rattle.planner.specs.Refusal.{Asked, Lent, planRefusal}
+use Rattle.planner.specs.Refusal.{Asked, Lent, ruledBy, footingOf, planTable}
 use Rattle.planner.specs.declared.Answer.{Answer}
 
 -- what the search is asked
@@ -83,11 +84,19 @@ abbrev pub stepsWith : Option (Found Cost ℕ) → List ℕ → List ℕ
 stepsWith none old = old
 stepsWith (some p) old = p .steps ++ drop (length (p .steps)) old
 
--- the answer and the step list at exit, on all input
-unfoldable pub plannedFor : Asked → Lent → List ℕ → Answer × List ℕ
-plannedFor a l steps =
-    (fieldsOf (a .rules) (a .start) (answered a .plan) (answered a .ending) (answered a .expansions), stepsWith (answered a .plan) steps) if eqb (planRefusal a l) 0 otherwise
-    (refused (planRefusal a l), steps)
+-- an answer's fields and its step list
+abbrev pub given : Rules → (start : List ℕ) → Answered Cost ℕ → List ℕ → Answer × List ℕ
+given q start r old = (fieldsOf q start (r .plan) (r .ending) (r .expansions), stepsWith (r .plan) old)
+
+-- the answer and the step list at exit on a footing
+unfoldable pub plannedOn : Footing → Asked → Lent → List ℕ → Answer × List ℕ
+plannedOn on a l steps =
+    given (on .runs) (a .start) (answered (ruledBy (on .runs) a)) steps if eqb (planTable on a l) 0 otherwise
+    (refused (planTable on a l), steps)
+
+-- the answer and the step list at exit, on all input: builders and search work with the narrowed rules
+abbrev pub plannedFor : Asked → Lent → List ℕ → Answer × List ℕ
+plannedFor a l steps = plannedOn (footingOf a) a l steps
 
 -- a work list keeps its length, and beside a refusal its content; after an accepted call the content is free
 pub record WorkKept (refusal : ℕ) (old new : List ℕ) : Type 0 where

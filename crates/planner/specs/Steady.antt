@@ -14,6 +14,7 @@ use Rattle.costs.specs.Choice.{_if_otherwise_}
 use Rattle.costs.specs.Cost.{noMore}
 use Rattle.costs.specs.declared.Cost.{Cost}
 use Rattle.replay.specs.Machine.{Rules}
+use Rattle.replay.specs.Beneath.{narrowed}
 use Rattle.algebra.specs.GasBytes.{gas-bytes, le-is, domain-fits}
 use Rattle.astar.specs.Search.{Allowance}
 use Rattle.astar.specs.Again.{_⊑_}
@@ -23,8 +24,8 @@ use Rattle.astar.specs.Steady.{Settled, Steady, steady}
 use Rattle.problem.specs.Problem.{problemOf, bounded}
 use Rattle.problem.specs.Replays.{price-listed}
 use Rattle.incumbent.specs.Hand.{Held}
-use Rattle.planner.specs.Refusal.{Asked, Lent, planRefusal}
-use Rattle.planner.specs.Planned.{questionOf, listed, planHeld, before, answered, fieldsOf, refused, stepsWith, plannedFor}
+use Rattle.planner.specs.Refusal.{Asked, Lent, narrow, planRefusal}
+use Rattle.planner.specs.Planned.{questionOf, listed, planHeld, before, answered, fieldsOf, refused, stepsWith, plannedOn, plannedFor}
 use Rattle.planner.specs.Accepted.{Accepted, accepted, bounds}
 use Rattle.planner.specs.declared.Answer.{Answer}
 
@@ -139,13 +140,13 @@ module _ (q : Rules) (start : List ℕ) where
 
 -- ---- the claim
 
--- two plannings of one question, both accepted, no allowance lower in the second, with lent lists of any lengths and contents
+-- two plannings of one question, with the same items beneath, both accepted, no allowance lower in the second, with lent lists of any lengths and contents
 pub demand-3 : (a : Asked) (A A′ : Allowance) (l m : Lent) (xs ys : List ℕ) → A ⊑ A′ → planRefusal (allowing a A) l ≡ 0 → planRefusal (allowing a A′) m ≡ 0 →
     Demand3 (plannedFor (allowing a A) l xs .0) (plannedFor (allowing a A) l xs .1) (plannedFor (allowing a A′) m ys .0) (plannedFor (allowing a A′) m ys .1)
-unfolding plannedFor
+unfolding plannedOn
 demand-3 a A A′ l m xs ys more h k =
     rw (h, k)
-    (steady-fields (a .rules) (a .start) (answered (allowing a A)) (answered (allowing a A′)) xs ys (steady-answers a A A′ m more (accepted (allowing a A′) m k)))
+    (steady-fields (narrowed (a .rules)) (a .start) (answered (allowing (narrow a) A)) (answered (allowing (narrow a) A′)) xs ys (steady-answers (narrow a) A A′ m more (accepted (allowing a A′) m k)))
 
 -- no number beside an answer: the question was accepted
 abbrev chosen : Answer × List ℕ → List ℕ → ℕ → Answer × List ℕ
@@ -156,8 +157,8 @@ chosen-zero t xs zero h = refl
 chosen-zero t xs (suc n) h = let k : eqb (suc n) 0 ≡ false = ne-eqb (suc n) 0 (λ e. omega arith) in rw k at h
 
 accepted-answer : (a : Asked) (l : Lent) (xs : List ℕ) → plannedFor a l xs .0 .refusal ≡ 0 → planRefusal a l ≡ 0
-unfolding plannedFor
-accepted-answer a l xs h = chosen-zero (fields (a .rules) (a .start) (answered a), stepsWith (answered a .plan) xs) xs (planRefusal a l) h
+unfolding plannedOn
+accepted-answer a l xs h = chosen-zero (fields (narrowed (a .rules)) (a .start) (answered (narrow a)), stepsWith (answered (narrow a) .plan) xs) xs (planRefusal a l) h
 
 -- the same of two answers as their callers got them
 pub demand-3-called : (a : Asked) (A A′ : Allowance) (l m : Lent) (xs ys : List ℕ) (r s : Answer) (xs′ ys′ : List ℕ) →

@@ -11,15 +11,17 @@ ghost use lib.Dec.{eqb, ltb};
 ghost use lib.ListN.{length};
 ghost use Rattle.costs.specs.Choice.{_if_otherwise_};
 ghost use Rattle.costs.specs.Table.{anyOver, kindsFault, pricesFault};
-ghost use Rattle.replay.specs.Machine.{rules, ruled};
+ghost use Rattle.replay.specs.Machine.{rules, above, ruled};
+ghost use Rattle.replay.specs.Beneath.{tooTall};
 ghost use Rattle.window.specs.Pack.{Keys, pack};
 ghost use Rattle.incumbent.specs.Hand.{heldOf};
-ghost use Rattle.planner.specs.Planned.{answered, listed, planHeld, plannedFor, WorkKept, bareOf, refused};
+ghost use Rattle.planner.specs.Planned.{answered, listed, planHeld, given, plannedFor, WorkKept, bareOf, refused};
 ghost use Rattle.algebra.specs.GasBytes.{«gas-bytes»};
 ghost use Rattle.astar.specs.Planner.{searched};
 ghost use Rattle.successors.specs.Whole.{asked as sought};
 ghost use Rattle.problem.specs.Problem.{problemOf};
-ghost use Rattle.planner.specs.Cases.{given, foundBySearch};
+ghost use Rattle.planner.specs.Accepted.{Accepted};
+ghost use Rattle.planner.specs.Cases.{foundBySearch};
 ghost use Rattle.planner.specs.Refusal.{asked, allowances, lent, allowanceFault, overLength, shortLists, planRefusal};
 
 // What the planner answers: the number of a refusal or 0, document 01's nine fields, and the plan's highest window.
@@ -96,19 +98,21 @@ fn short_lists(a: Allowances, l: Lengths) -> bool
     )
 }
 
-// Rows 4 to 6 over the rows of higher numbers.
+// Rows 4, 5, 12 and 6 over the rows behind them. Row 6 reads this max_len.
 fn table_rows(
     start: &[u8],
     goal: &[u8],
     swap_max: usize,
     max_len: usize,
+    beneath: usize,
     kinds: &[u8],
     prices: &[u32],
-    higher: u32,
+    behind: u32,
 ) -> u32
     ensures { λ r. ⌜ r ≡ (4 if kindsFault (now (kinds .entry)) || pricesFault (now (prices .entry)) otherwise
         (5 if anyOver 63 (now (start .entry)) || anyOver 63 (now (goal .entry)) otherwise
-        (6 if overLength «swap_max» «max_len» (length (now (start .entry))) || overLength «swap_max» «max_len» (length (now (goal .entry))) otherwise higher))) ⌝ }
+        (12 if tooTall beneath (length (now (start .entry))) otherwise
+        (6 if overLength «swap_max» «max_len» (length (now (start .entry))) || overLength «swap_max» «max_len» (length (now (goal .entry))) otherwise behind)))) ⌝ }
 {
     let length = costs::row(
         6,
@@ -116,12 +120,13 @@ fn table_rows(
             too_long(swap_max, max_len, start.len()),
             too_long(swap_max, max_len, goal.len()),
         ),
-        higher,
+        behind,
     );
+    let stack = costs::row(12, replay::too_tall(beneath, start.len()), length);
     let key = costs::row(
         5,
         costs::either(costs::any_over(start, 63), costs::any_over(goal, 63)),
-        length,
+        stack,
     );
     costs::row(
         4,
@@ -130,23 +135,34 @@ fn table_rows(
     )
 }
 
-// Refusals 1 to 7.
+// Refusals 1 to 7, and 12 before 6.
 fn refusal(
     start: &[u8],
     goal: &[u8],
     cfg: SearchCfg,
+    beneath: usize,
     a: Allowances,
     kinds: &[u8],
     prices: &[u32],
     l: Lengths,
 ) -> u32
     ensures { λ r. ⌜ r ≡ planRefusal
-        (asked (ruled cfg (now (kinds .entry))) (now (prices .entry)) (now (start .entry)) (now (goal .entry))
+        (asked (above beneath (ruled cfg (now (kinds .entry)))) (now (prices .entry)) (now (start .entry)) (now (goal .entry))
         (allowances (a .«max_expansions») (a .«states_without») (a .«states_with»)))
         (lent (l .steps) (l .nodes) (l .heads) (l .list)) ⌝ }
 {
     let short = costs::row(7, short_lists(a, l), 0);
-    let table = table_rows(start, goal, cfg.swap_max, cfg.max_len, kinds, prices, short);
+    let narrow = replay::narrowed(cfg, beneath);
+    let table = table_rows(
+        start,
+        goal,
+        cfg.swap_max,
+        narrow.max_len,
+        beneath,
+        kinds,
+        prices,
+        short,
+    );
     let allowance = costs::row(3, allowance_fault(a), table);
     let window = costs::row(2, 21 < cfg.max_len, allowance);
     costs::row(1, replay::reach_fault(cfg.dup_max, cfg.swap_max), window)
@@ -280,8 +296,8 @@ fn with_search(
     hand: Hand,
     held: &[u16],
 ) -> Answer
-    requires { ⌜ planRefusal (asked (ruled cfg (now kinds)) (now prices) (now start) (now goal) (allowances (a .«max_expansions») (a .«states_without») (a .«states_with»)))
-        (lent (length (now steps)) (length (now nodes)) (length (now heads)) (length (now list))) ≡ 0 ⌝ }
+    requires { ⌜ Accepted (asked (ruled cfg (now kinds)) (now prices) (now start) (now goal) (allowances (a .«max_expansions») (a .«states_without») (a .«states_with»)))
+        (lent (length (now steps)) (length (now nodes)) (length (now heads)) (length (now list))) ⌝ }
     requires { ⌜ (hand .count ≤ 128) × (128 ≤ length (now held)) ⌝ }
     ensures { λ r. ⌜ (r, now (steps .exit)) ≡ given (ruled cfg (now (kinds .entry))) (now (start .entry))
         (searched «gas-bytes» (problemOf (sought cfg (now (kinds .entry)) (now (prices .entry)) (now (goal .entry))) (now (start .entry))) (listed (now (prices .entry))) 50
@@ -329,8 +345,8 @@ fn accepted_plan(
     cfg: SearchCfg,
     a: Allowances,
 ) -> Answer
-    requires { ⌜ planRefusal (asked (ruled cfg (now kinds)) (now prices) (now start) (now goal) (allowances (a .«max_expansions») (a .«states_without») (a .«states_with»)))
-        (lent (length (now steps)) (length (now nodes)) (length (now heads)) (length (now list))) ≡ 0 ⌝ }
+    requires { ⌜ Accepted (asked (ruled cfg (now kinds)) (now prices) (now start) (now goal) (allowances (a .«max_expansions») (a .«states_without») (a .«states_with»)))
+        (lent (length (now steps)) (length (now nodes)) (length (now heads)) (length (now list))) ⌝ }
     ensures { λ r. ⌜ (r, now (steps .exit)) ≡ given (ruled cfg (now (kinds .entry))) (now (start .entry))
         (answered (asked (ruled cfg (now (kinds .entry))) (now (prices .entry)) (now (start .entry)) (now (goal .entry)) (allowances (a .«max_expansions») (a .«states_without») (a .«states_with»))))
         (now (steps .entry)) ⌝ }
@@ -359,13 +375,15 @@ fn accepted_plan(
     )
 }
 
-// The model plan of a question, over the first places of the step list, and its pass mark; or the number that refuses it.
+// The model plan of a question, over the first places of the step list, and its pass mark; or the number that refuses it. It is worked out with
+// the rules narrowed by the items beneath (replay's law `may-grow`).
 pub fn plan(
     start: &[u8],
     goal: &[u8],
     dup_max: usize,
     swap_max: usize,
     max_len: usize,
+    beneath: usize,
     max_expansions: usize,
     states_without: usize,
     states_with: usize,
@@ -377,12 +395,12 @@ pub fn plan(
     list: &mut [u64],
 ) -> Answer
     ensures { λ r. ⌜ (r, now (steps .exit)) ≡ plannedFor
-        (asked (rules «dup_max» «swap_max» «max_len» (now (kinds .entry))) (now (prices .entry)) (now (start .entry)) (now (goal .entry)) (allowances «max_expansions» «states_without» «states_with»))
+        (asked (above beneath (rules «dup_max» «swap_max» «max_len» (now (kinds .entry)))) (now (prices .entry)) (now (start .entry)) (now (goal .entry)) (allowances «max_expansions» «states_without» «states_with»))
         (lent (length (now (steps .entry))) (length (now (nodes .entry))) (length (now (heads .entry))) (length (now (list .entry))))
         (now (steps .entry)) ⌝ }
     ensures { λ r. ⌜ WorkKept (r .refusal) (now (nodes .entry)) (now (nodes .exit)) × WorkKept (r .refusal) (now (heads .entry)) (now (heads .exit)) × WorkKept (r .refusal) (now (list .entry)) (now (list .exit)) ⌝ }
 {
-    let cfg = SearchCfg {
+    let asked = SearchCfg {
         dup_max,
         swap_max,
         max_len,
@@ -398,10 +416,11 @@ pub fn plan(
         heads: heads.len(),
         list: list.len(),
     };
-    let n = refusal(start, goal, cfg, a, kinds, prices, l);
+    let n = refusal(start, goal, asked, beneath, a, kinds, prices, l);
     if n != 0 {
         return Answer::refused(n);
     }
+    let cfg = replay::narrowed(asked, beneath);
     accepted_plan(
         nodes,
         heads,

@@ -15,6 +15,7 @@ use Rattle.costs.specs.declared.Step.{Step}
 use Rattle.costs.specs.declared.Decoded.{Decoded}
 use Rattle.costs.specs.declared.Decoded.the-variants.{Known, Unknown}
 use Rattle.replay.specs.Machine.{Rules, allows, after, stepOn, onward, ranOn, Outcome, stops, ends, onto, passes, tallest, highest}
+use Rattle.replay.specs.Beneath.{narrowed, tooTall, tall-sum, narrowed-stands}
 use Rattle.replay.specs.Laws.{after-fits}
 use Rattle.replay.specs.Steps.{lengthAfter, length-after}
 
@@ -147,3 +148,9 @@ highest-fits q (c ∷ cs) w f = go (λ v. highest-fits q cs v) (decoded c)
         max (length w) (tallest (onto (λ u. passes q cs u) (stepOn q d w))) ≤ q .maxLen
     go h (Known s) = fits h s (allows q s (length w)) refl
     go h Unknown = omega (arith, f)
+
+-- the whole stack, with the window at its highest, has at most 1,024 items (request U3)
+pub highest-stands : (q : Rules) (l w : List ℕ) → length w ≤ narrowed q .maxLen → tooTall (q .beneath) (length w) ≡ false → q .beneath + highest (narrowed q) l w ≤ 1024
+highest-stands q l w f h =
+    let b = tall-sum (q .beneath) (length w) h in
+    tall-sum (q .beneath) (highest (narrowed q) l w) (narrowed-stands q (highest (narrowed q) l w) (omega (arith, b)) (highest-fits (narrowed q) l w f))

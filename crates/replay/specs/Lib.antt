@@ -1,4 +1,5 @@
 pub mod Machine
+pub mod Beneath
 pub mod Replay
 pub mod Laws
 pub mod Held
@@ -6,4 +7,5 @@ pub mod Worked
 pub mod Steps
 pub mod Highest
 pub mod Popped
+pub mod Before
 pub mod Writing

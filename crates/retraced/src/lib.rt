@@ -2,7 +2,7 @@
 use replay::Replayed;
 use rewind::Rewound;
 ghost use mathlib.Core.Path.{_≡_};
-ghost use Rattle.replay.specs.Machine.{rules};
+ghost use Rattle.replay.specs.Machine.{rules, above};
 ghost use Rattle.replay.specs.Replay.{replayed};
 ghost use Rattle.retraced.specs.Retraced.{takenBack};
 
@@ -12,20 +12,21 @@ pub struct Retraced {
     pub back: Rewound,
 }
 
-// Replays steps and, where no number refuses them, steps back from the end window and with the popped keys that were written. Lists have
-// any length and contents. With 21 places for it, stepping back then gives the start.
+// Replays steps above so many items and, where no number refuses them, steps back from the end window and with the popped keys that were
+// written. Lists have any length and contents. With 21 places for it, stepping back then gives the start.
 pub fn retrace(
     start: &[u8],
     steps: &[u16],
     dup_max: usize,
     swap_max: usize,
     max_len: usize,
+    beneath: usize,
     kinds: &[u8],
     result: &mut [u8],
     popped: &mut [u8],
     again: &mut [u8],
 ) -> Retraced
-    ensures { λ r. ⌜ (r .forth, now (result .exit), now (popped .exit)) ≡ replayed (rules «dup_max» «swap_max» «max_len» (now (kinds .entry))) (now (start .entry)) (now (steps .entry)) (now (result .entry)) (now (popped .entry)) ⌝ }
+    ensures { λ r. ⌜ (r .forth, now (result .exit), now (popped .exit)) ≡ replayed (above beneath (rules «dup_max» «swap_max» «max_len» (now (kinds .entry)))) (now (start .entry)) (now (steps .entry)) (now (result .entry)) (now (popped .entry)) ⌝ }
     ensures { λ r. ⌜ (r .back, now (again .exit)) ≡ takenBack (r .forth .refusal) (now (start .entry)) (now (again .entry)) ⌝ }
 {
     let forth = replay::replay(
@@ -34,6 +35,7 @@ pub fn retrace(
         dup_max,
         swap_max,
         max_len,
+        beneath,
         kinds,
         result,
         popped,
@@ -54,6 +56,7 @@ pub fn retrace(
         dup_max,
         swap_max,
         max_len,
+        beneath,
         kinds,
         again,
     );

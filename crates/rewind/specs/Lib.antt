@@ -9,4 +9,5 @@ pub mod Theorems
 pub mod Back
 pub mod Round
 pub mod Parts
+pub mod Before
 pub mod Worked

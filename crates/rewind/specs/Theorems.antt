@@ -12,6 +12,7 @@ use Rattle.costs.specs.declared.Step.{Step}
 use Rattle.costs.specs.declared.Step.the-variants.{Pop, Dup, Swap, PushImm, LoadVal}
 use Rattle.costs.specs.declared.Decoded.{Decoded}
 use Rattle.costs.specs.declared.Decoded.the-variants.{Known, Unknown}
+use Rattle.replay.specs.Beneath.{narrowed, narrowed-most, narrowed-fits, narrowed-stands, tall-sum}
 use Rattle.replay.specs.Laws.{after-fits}
 use Rattle.replay.specs.Steps.{Did, did, does, ran-none, ran-goes, ran-went, over-get, over-cons, over-drop}
 use Rattle.replay.specs.Popped.{popped-none, popped-goes}
@@ -132,27 +133,38 @@ low-aux : (m : ℕ) (l r : List ℕ) → anyOver m l ≡ false → anyOver m r �
 low-aux m [] r h k = k
 low-aux m (x ∷ l) r h k = low-aux m l (x ∷ r) (over-drop m (x ∷ l) h) (over-cons m x r (over-get m (x ∷ l) 0 h) k)
 
+-- a start that led here fits the narrowed rules, and then no more than 1,024 items lie beneath
+pub led-fits : (q : Rules) (start steps popped end : List ℕ) → LedBack q start steps popped end → length start ≤ narrowed q .maxLen
+led-fits q start steps popped end l = narrowed-fits q (length start) (l .fits) (l .stands)
+
+pub led-beneath : (q : Rules) (start steps popped end : List ℕ) → LedBack q start steps popped end → q .beneath ≤ 1024
+led-beneath q start steps popped end l = omega (arith, tall-sum (q .beneath) (length start) (l .stands))
+
+-- above at most 1,024 items a start that fits the narrowed rules is one that replay takes
+pub led-narrow : (q : Rules) (start steps popped end : List ℕ) → q .beneath ≤ 1024 → anyOver 63 start ≡ false → length start ≤ narrowed q .maxLen → ranOn (narrowed q) 0 steps start ≡ ends end →
+    poppedOn (narrowed q) steps start ≡ popped → LedBack q start steps popped end
+led-narrow q start steps popped end b k f l p =
+    record { keys = k; fits = omega (arith, f, narrowed-most q); stands = narrowed-stands q (length start) b f; leads = l; pops = p }
+
 -- the walk back finds every start that led here
-pub finds : (q : Rules) (start steps popped end : List ℕ) → LedBack q start steps popped end → startBefore q end steps popped ≡ some start
+pub finds : (q : Rules) (start steps popped end : List ℕ) → LedBack q start steps popped end → startBefore (narrowed q) end steps popped ≡ some start
 unfolding startBefore
 finds q start steps popped end l =
-    let e : reverse popped ≡ reverse (poppedOn q steps start) ++ [] = ap reverse (sym (l .pops)) ∙ sym (append-nil (reverse (poppedOn q steps start))) in
-    ap (λ (x : List ℕ). startOf (walkedBack q steps (place end x))) e ∙ ap startOf (retraced q steps 0 start end [] (l .fits) (l .leads))
+    let n = narrowed q in
+    let e : reverse popped ≡ reverse (poppedOn n steps start) ++ [] = ap reverse (sym (l .pops)) ∙ sym (append-nil (reverse (poppedOn n steps start))) in
+    ap (λ (x : List ℕ). startOf (walkedBack n steps (place end x))) e ∙ ap startOf (retraced n steps 0 start end [] (led-fits q start steps popped end l) (l .leads))
 
 -- what the walk back finds did lead here
-pub found-led : (q : Rules) (start steps popped end : List ℕ) → length end ≤ q .maxLen → anyOver 63 end ≡ false → anyOver 63 popped ≡ false →
-    startBefore q end steps popped ≡ some start → LedBack q start steps popped end
+pub found-led : (q : Rules) (start steps popped end : List ℕ) → q .beneath ≤ 1024 → length end ≤ narrowed q .maxLen → anyOver 63 end ≡ false → anyOver 63 popped ≡ false →
+    startBefore (narrowed q) end steps popped ≡ some start → LedBack q start steps popped end
 unfolding startBefore
-found-led q start steps popped end f k p h =
-    let e = at-start (walkedBack q steps (place end (reverse popped))) start h in
-    let w = walked q steps (place end (reverse popped)) (place start []) f e in
-    let l = walked-low q steps (place end (reverse popped)) (place start []) (record { windowLow = k; leftLow = low-aux 63 popped [] p refl }) e in
-    record {
-      keys = l .windowLow;
-      fits = w .fits;
-      leads = w .leads 0;
-      pops = sym (reverse-reverse (poppedOn q steps start)) ∙ ap reverse (sym (w .gone ∙ append-nil (reverse (poppedOn q steps start)))) ∙ reverse-reverse popped;
-    }
+found-led q start steps popped end b f k p h =
+    let n = narrowed q in
+    let e = at-start (walkedBack n steps (place end (reverse popped))) start h in
+    let w = walked n steps (place end (reverse popped)) (place start []) f e in
+    let l = walked-low n steps (place end (reverse popped)) (place start []) (record { windowLow = k; leftLow = low-aux 63 popped [] p refl }) e in
+    led-narrow q start steps popped end b (l .windowLow) (w .fits) (w .leads 0)
+    (sym (reverse-reverse (poppedOn n steps start)) ∙ ap reverse (sym (w .gone ∙ append-nil (reverse (poppedOn n steps start)))) ∙ reverse-reverse popped)
 
 -- there is one start at most
 pub one-start : (q : Rules) (a b steps popped end : List ℕ) → LedBack q a steps popped end → LedBack q b steps popped end → a ≡ b

@@ -10,7 +10,7 @@ ghost use lib.ListN.{length, take};
 ghost use Rattle.costs.specs.Step.{decoded};
 ghost use Rattle.window.specs.Pack.{Keys};
 ghost use Rattle.window.specs.Keys.{keysOf, Window};
-ghost use Rattle.replay.specs.Machine.{rules, ruled};
+ghost use Rattle.replay.specs.Machine.{rules, above, ruled};
 ghost use Rattle.replay.specs.Laws.{Ready};
 ghost use Rattle.rewind.specs.Walk.{place, putBy, regrown, ungrown, unswapped, backOver, backOn, startBefore};
 ghost use Rattle.rewind.specs.Held.{undoneOf, foundOf};
@@ -194,32 +194,34 @@ fn walk_back(cfg: SearchCfg, kinds: &[u8], end: PackedState, steps: &[u16], popp
     }
 }
 
-// Refusals 1 to 7.
+// Refusals 1 to 7, and 12 before 6.
 fn refusal(
     cfg: SearchCfg,
+    beneath: usize,
     end: &[u8],
     steps: usize,
     popped: &[u8],
     kinds: &[u8],
     places: usize,
 ) -> u32
-    ensures { λ r. ⌜ r ≡ rewindRefusal (ruled cfg (now (kinds .entry))) (now (end .entry)) steps (now (popped .entry)) places ⌝ }
+    ensures { λ r. ⌜ r ≡ rewindRefusal (above beneath (ruled cfg (now (kinds .entry)))) (now (end .entry)) steps (now (popped .entry)) places ⌝ }
 {
     let dup_max = cfg.dup_max;
     let swap_max = cfg.swap_max;
     let max_len = cfg.max_len;
     let short = costs::row(7, places < 21, 0);
     let length = costs::row(6, max_len < end.len(), short);
+    let stack = costs::row(12, replay::too_tall(beneath, end.len()), length);
     let over = costs::either(costs::any_over(end, 63), costs::any_over(popped, 63));
-    let key = costs::row(5, over, length);
+    let key = costs::row(5, over, stack);
     let table = costs::row(4, costs::kinds_fault(kinds), key);
     let allowance = costs::row(3, 65536 < steps, table);
     let window = costs::row(2, 21 < max_len, allowance);
     costs::row(1, replay::reach_fault(dup_max, swap_max), window)
 }
 
-// The start from which the steps lead to the end window with these keys popped: its length, with the start over the first places of the
-// result list.
+// The start from which the steps lead, above so many items, to the end window with these keys popped: its length, with the start over the
+// first places of the result list. The walk back goes by the narrowed rules (law `may-grow`).
 pub fn rewind(
     end: &[u8],
     steps: &[u16],
@@ -227,24 +229,34 @@ pub fn rewind(
     dup_max: usize,
     swap_max: usize,
     max_len: usize,
+    beneath: usize,
     kinds: &[u8],
     result: &mut [u8],
 ) -> Rewound
-    ensures { λ r. ⌜ (r, now (result .exit)) ≡ rewound (rules «dup_max» «swap_max» «max_len» (now (kinds .entry))) (now (end .entry)) (now (steps .entry)) (now (popped .entry)) (now (result .entry)) ⌝ }
-    ensures { λ r. ⌜ SteppedBack (rules «dup_max» «swap_max» «max_len» (now (kinds .entry))) (now (end .entry)) (now (steps .entry)) (now (popped .entry)) (now (result .entry)) (r, now (result .exit)) ⌝ }
+    ensures { λ r. ⌜ (r, now (result .exit)) ≡ rewound (above beneath (rules «dup_max» «swap_max» «max_len» (now (kinds .entry)))) (now (end .entry)) (now (steps .entry)) (now (popped .entry)) (now (result .entry)) ⌝ }
+    ensures { λ r. ⌜ SteppedBack (above beneath (rules «dup_max» «swap_max» «max_len» (now (kinds .entry)))) (now (end .entry)) (now (steps .entry)) (now (popped .entry)) (now (result .entry)) (r, now (result .exit)) ⌝ }
 {
-    let cfg = SearchCfg {
+    let given = SearchCfg {
         dup_max,
         swap_max,
         max_len,
     };
-    let n = refusal(cfg, end, steps.len(), popped, kinds, result.len());
+    let n = refusal(
+        given,
+        beneath,
+        end,
+        steps.len(),
+        popped,
+        kinds,
+        result.len(),
+    );
     if n != 0 {
         return Rewound {
             refusal: n,
             length: 0,
         };
     }
+    let cfg = replay::narrowed(given, beneath);
     let a = walk_back(cfg, kinds, PackedState::from_ids(end), steps, popped);
     let state = a.state;
     if a.ok {

@@ -8,6 +8,7 @@ use borrow.Author.Tests.{eq-eqb}
 use lib.ListN.{length, take, replicate, length-map}
 use Rattle.costs.specs.Choice.{_if_otherwise_}
 use Rattle.replay.specs.Machine.{Rules, ranOn, ends}
+use Rattle.replay.specs.Beneath.{narrowed}
 use Rattle.replay.specs.Replay.{replayRefusal, replayed, replayedTo}
 use Rattle.replay.specs.Laws.{replayed-to}
 use Rattle.star_swap.specs.Count.{cnt}
@@ -70,14 +71,14 @@ module _ (q : Rules) (start goal : List ℕ) where
       let r = written-read (swapRefusal (q .swapMax) start goal (length old)) (codes (starSwaps start goal)) old h in
       ap (λ (l : List ℕ). ranOn q 0 l start) (r .1) ∙ star-swap-reaches (length old) (r .0)
 
-  -- and as replay answers it, for rules that replay accepts
-  pub star-swap-replayed : (places : ℕ) (result popped : List ℕ) → swapRefusal (q .swapMax) start goal places ≡ 0 → replayRefusal q start (length (codes (starSwaps start goal))) (length result) (length popped) ≡ 0 →
-      replayed q start (codes (starSwaps start goal)) result popped ≡ replayedTo q start (codes (starSwaps start goal)) goal result popped
-  star-swap-replayed places result popped h a = replayed-to q start (codes (starSwaps start goal)) goal result popped a (star-swap-reaches places h)
-
   -- where star-swap gives 9, the machine of that reach carries out no list of swaps from the start to the goal
   pub nine-never : (places : ℕ) → swapRefusal (q .swapMax) start goal places ≡ 9 → (S : List ℕ) → ((d : ℕ) → 0 < cnt d S → d < 256) → ranOn q 0 (codes S) start ≡ ends goal → ⊥
   nine-never places h S m e = nine-none (q .swapMax) start goal places h S (ran-routes q 0 S start goal m e)
+
+-- and as replay answers it, for rules that replay accepts, whatever lies beneath
+pub star-swap-replayed : (q : Rules) (start goal : List ℕ) (places : ℕ) (result popped : List ℕ) → swapRefusal (q .swapMax) start goal places ≡ 0 → replayRefusal q start (length (codes (starSwaps start goal))) (length result) (length popped) ≡ 0 →
+    replayed q start (codes (starSwaps start goal)) result popped ≡ replayedTo q start (codes (starSwaps start goal)) goal result popped
+star-swap-replayed q start goal places result popped h a = replayed-to q start (codes (starSwaps start goal)) goal result popped a (star-swap-reaches (narrowed q) start goal places h)
 
 -- a window that is the goal wants no swap
 misplaced-none : (p : ℕ) (w : List ℕ) → misplaced p w w ≡ []

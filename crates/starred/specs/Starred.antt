@@ -8,8 +8,9 @@ use Rattle.costs.specs.Cost.{plus, noMore}
 use Rattle.costs.specs.Step.{decoded}
 use Rattle.costs.specs.Table.{kindsFault, pricesFault}
 use Rattle.window.specs.Packing.{packRefusal, packing}
-use Rattle.replay.specs.Machine.{rules, room, immediate, value, allows, after, ranOn, passes, highest}
-use Rattle.replay.specs.Replay.{reachFault, replayRefusal, replayOutcome, replayed}
+use Rattle.replay.specs.Machine.{rules, above, room, immediate, value, allows, after, ranOn, passes, highest}
+use Rattle.replay.specs.Beneath.{tooTall, windowAbove}
+use Rattle.replay.specs.Replay.{reachFault, replayTable, outcomeOn, replayed}
 use Rattle.star_swap.specs.Star.{pick, trailLoop, trail, lastOf, circuits, misplaced, starSwaps}
 use Rattle.star_swap.specs.Refusal.{unroutable, builderRefusal, starSwapped}
 use Rattle.builders.specs.Draft.{does, routed}
@@ -19,8 +20,8 @@ use Rattle.incumbent.specs.Flush.{sameFrom, commonSuffix, withPops, withKeys, f
 use Rattle.incumbent.specs.Hand.{inHand}
 use Rattle.astar.specs.Planner.{planOf, searched, planned}
 use Rattle.astar.specs.Search.{begin}
-use Rattle.planner.specs.Refusal.{Asked, Lent, asked, allowances, lent, allowanceFault, overLength, shortLists, planRefusal}
-use Rattle.planner.specs.Planned.{answered, plannedFor, refused}
+use Rattle.planner.specs.Refusal.{Asked, Lent, asked, allowances, lent, allowanceFault, overLength, shortLists, planTable}
+use Rattle.planner.specs.Planned.{answered, plannedOn, plannedFor, refused}
 use Rattle.planner.specs.declared.Answer.{Answer}
 
 -- the desk's kinds: keys 0 to 31 values, key 32 zero, the others immediates
@@ -46,6 +47,10 @@ lines = replicate 128 9999
 -- the desk's prices and the allowances 0 1000 1000, with these reaches and this greatest length
 abbrev ask : ℕ → ℕ → ℕ → List ℕ → List ℕ → Asked
 ask dup swap len start goal = asked (rules dup swap len kinds) prices start goal (allowances 0 1000 1000)
+
+-- the same with the greatest reaches, above so many items
+abbrev deep : ℕ → List ℕ → List ℕ → Asked
+deep beneath start goal = asked (above beneath (rules 16 17 21 kinds)) prices start goal (allowances 0 1000 1000)
 
 -- work lists of 1,050 entries
 abbrev desk : Lent
@@ -101,9 +106,14 @@ pub record Starred : Type 0 where
   pub packing-64 : packing 6 21 (64 ∷ []) ≡ record { refusal = 5; lo = 0; hi = 0 }
   -- a Pop that replay does not allow
   pub pop-on-empty : replayed (rules 16 17 21 kinds) [] (0 ∷ []) sheet sheet ≡ (record { refusal = 8; index = 0; length = 0; highest = 0 }, sheet, sheet)
+  -- items beneath (request U3): the window ends where the stack does, and 6 reads that; no window is left; one item too many
+  pub narrower : plannedFor (deep 1023 [] (32 ∷ [])) desk lines ≡ (builders 1 2 1 2 1, 800 ∷ replicate 127 9999)
+  pub no-room : plannedFor (deep 1023 [] (32 ∷ 32 ∷ [])) desk lines ≡ (refused 6, lines)
+  pub none-left : plannedFor (deep 1024 [] []) desk lines ≡ (atGoal 0, lines)
+  pub one-over : plannedFor (deep 1024 (0 ∷ []) []) desk lines ≡ (refused 12, lines)
 
 pub starred : Starred
-unfolding packing packRefusal replayOutcome replayRefusal reachFault kindsFault pricesFault ranOn passes highest allows after room immediate value decoded plus noMore pick trailLoop trail lastOf circuits misplaced starSwaps unroutable builderRefusal starSwapped does routed firstAt dropAt within trimmed made copied added addedTimes filled finished dupAndStar bury pops uncovered deleteTail begins notTail deleted tailPlan sameFrom commonSuffix withPops withKeys flushCost inHand planOf searched planned begin allowanceFault overLength shortLists planRefusal answered plannedFor
+unfolding packing packRefusal outcomeOn replayTable tooTall windowAbove reachFault kindsFault pricesFault ranOn passes highest allows after room immediate value decoded plus noMore pick trailLoop trail lastOf circuits misplaced starSwaps unroutable builderRefusal starSwapped does routed firstAt dropAt within trimmed made copied added addedTimes filled finished dupAndStar bury pops uncovered deleteTail begins notTail deleted tailPlan sameFrom commonSuffix withPops withKeys flushCost inHand planOf searched planned begin allowanceFault overLength shortLists planTable answered plannedOn
 starred =
     record {
       two-pops = refl;
@@ -118,4 +128,8 @@ starred =
       swap-pop-swap = refl;
       packing-64 = refl;
       pop-on-empty = refl;
+      narrower = refl;
+      no-room = refl;
+      none-left = refl;
+      one-over = refl;
     }

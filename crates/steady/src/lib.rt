@@ -17,7 +17,7 @@ pub struct Allowed {
     pub states_with: usize,
 }
 
-// Plans one question under two sets of allowances, each time with step and work lists of its own, of any lengths and contents. Where
+// Plans one question, above so many items, under two sets of allowances, each time with step and work lists of its own, of any lengths and contents. Where
 // both plannings are accepted and no allowance is lower the second time, the pass mark is no higher, a plan stays a plan and costs no
 // more than its own ceiling, and an answer that ended by itself is the same in every field and step.
 pub fn plan_twice(
@@ -26,6 +26,7 @@ pub fn plan_twice(
     dup_max: usize,
     swap_max: usize,
     max_len: usize,
+    beneath: usize,
     kinds: &[u8],
     prices: &[u32],
     low: Allowed,
@@ -48,6 +49,7 @@ pub fn plan_twice(
         dup_max,
         swap_max,
         max_len,
+        beneath,
         low.max_expansions,
         low.states_without,
         low.states_with,
@@ -64,6 +66,7 @@ pub fn plan_twice(
         dup_max,
         swap_max,
         max_len,
+        beneath,
         high.max_expansions,
         high.states_without,
         high.states_with,

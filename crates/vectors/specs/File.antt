@@ -38,7 +38,7 @@ hasField rec tag = eqb (getD rec (placeOf (shortAt rec 6) rec tag 8) 0) tag
 
 -- The bytes of an entry of the field with a tag, 0 for a tag that is not known.
 abbrev pub widthOf : ℕ → ℕ
-widthOf tag = getD (0 ∷ 1 ∷ 1 ∷ 4 ∷ 2 ∷ 2 ∷ 4 ∷ 4 ∷ 2 ∷ 4 ∷ 2 ∷ 1 ∷ 1 ∷ 4 ∷ []) tag 0
+widthOf tag = getD (0 ∷ 1 ∷ 1 ∷ 4 ∷ 2 ∷ 2 ∷ 4 ∷ 4 ∷ 2 ∷ 4 ∷ 2 ∷ 1 ∷ 1 ∷ 4 ∷ 4 ∷ []) tag 0
 
 -- The field at a place is known and stands behind the tag before it.
 pub record FieldKnown (rec : List ℕ) (at last : ℕ) : Type 0 where

@@ -37,6 +37,8 @@ pub const POPPED: u8 = 12;
 
 pub const PLACES: u8 = 13;
 
+pub const BENEATH: u8 = 14;
+
 fn wide(b: u8) -> u32
     ensures { λ r. ⌜ r ≡ b ⌝ }
 {
@@ -189,6 +191,13 @@ pub fn limits_of(limits: &[u8]) -> Limits
     }
 }
 
+// How many items lie beneath the window: a number of eight bytes, the lower four first.
+pub fn beneath_of(items: &[u8]) -> usize
+    ensures { λ r. ⌜ r ≡ numberAt (now (items .entry)) 0 + 4294967296 * numberAt (now (items .entry)) 4 ⌝ }
+{
+    count(items, 0) + 4294967296 * count(items, 4)
+}
+
 // How many entries of a table are passed: by a place of the field of counts, or all where the record lacks it.
 pub fn passed(counts: &[u8], at: usize, all: usize) -> usize
     requires { ⌜ at < 4 ⌝ }
@@ -273,7 +282,7 @@ pub fn records_at(bytes: &[u8]) -> usize
 fn width_of(tag: u8) -> u8
     ensures { λ r. ⌜ r ≡ widthOf tag ⌝ }
 {
-    let widths: [u8; 14] = [0, 1, 1, 4, 2, 2, 4, 4, 2, 4, 2, 1, 1, 4];
+    let widths: [u8; 15] = [0, 1, 1, 4, 2, 2, 4, 4, 2, 4, 2, 1, 1, 4, 4];
     byte(&widths, tag as usize)
 }
 

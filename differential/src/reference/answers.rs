@@ -69,7 +69,7 @@ pub struct Prepared<'a> {
 }
 
 impl<'a> Prepared<'a> {
-    /// Of a question that no number refuses.
+    /// Of a question that no number refuses. The Rust knows nothing of items beneath: it gets the narrower window.
     pub fn new(question: &'a Case) -> Self {
         let kinds: &[u8; 64] = question.tables.kinds.as_slice().try_into().expect("64 kinds");
         let prices: &[u32; 196] = question.tables.prices.as_slice().try_into().expect("196 prices");
@@ -92,7 +92,7 @@ impl<'a> Prepared<'a> {
             cfg: SearchCfg {
                 dup_max: limits.dup_max,
                 swap_max: limits.swap_max,
-                max_len: limits.max_len,
+                max_len: limits.window(),
                 max_expansions: limits.max_expansions,
             },
             max_states: [limits.states_without, limits.states_with],

@@ -19,7 +19,7 @@ pub fn all(list: &mut List) {
     refusals(list);
     drawn(list);
     long_walks(list);
-    round_trips(list);
+    round_trips(list, 0);
 }
 
 impl List {
@@ -31,7 +31,7 @@ impl List {
     }
 
     /// The last record must give this start, or 11.
-    fn must_start(&self, start: Option<&[u8]>) {
+    pub(super) fn must_start(&self, start: Option<&[u8]>) {
         let Record { case, answer, .. } = self.records.last().expect("a record was added");
         let expected = if start.is_some() { 0 } else { 11 };
         assert_eq!((answer.refusal, &answer.window[..]), (expected, start.unwrap_or(&[])), "{}", command(case));
@@ -313,9 +313,10 @@ fn long_walks(list: &mut List) {
     }
 }
 
-/// From the end of each accepted replay of the list back to its start.
-fn round_trips(list: &mut List) {
-    let replays: Vec<Record> = list.records.iter().filter(|record| is_accepted_replay(record)).cloned().collect();
+/// From the end of each accepted replay of the list, from this record on, back to its start.
+pub fn round_trips(list: &mut List, from: usize) {
+    let replays: Vec<Record> =
+        list.records[from..].iter().filter(|record| is_accepted_replay(record)).cloned().collect();
     for Record { case, answer, .. } in replays {
         let there = case.clone();
         list.rewind(&answer.window, &case.steps, &answer.popped, |back| {

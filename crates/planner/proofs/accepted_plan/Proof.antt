@@ -16,9 +16,9 @@ use Rattle.problem.specs.Problem.{problemOf}
 use Rattle.incumbent.specs.Hand.{Held, heldOf}
 use Rattle.planner.specs.declared.Answer.{Answer}
 use Rattle.planner.specs.Refusal.{Asked, Lent, asked, allowances, lent}
-use Rattle.planner.specs.Planned.{answered, listed, planHeld, before, questionOf}
-use Rattle.planner.specs.Accepted.{Accepted, accepted, keys-below, start-window, goal-window}
-use Rattle.planner.specs.Cases.{given, still, at-goal, no-expansion, by-search, held-is}
+use Rattle.planner.specs.Planned.{answered, listed, planHeld, before, questionOf, given}
+use Rattle.planner.specs.Accepted.{Accepted, keys-below, start-window, goal-window}
+use Rattle.planner.specs.Cases.{still, at-goal, no-expansion, by-search, held-is}
 use borrow.Author.Needs.{needs}
 use Rattle.planner.proofs.accepted_plan.Statement.{statement}
 use Rattle.planner.proofs.accepted_plan.Tie as tie
@@ -38,7 +38,7 @@ lentAt s = let a = s .args in lent (length (a .steps .now)) (length (a .nodes .n
 
 okAt : (s : tie.Start) → Accepted (questionAt s) (lentAt s)
 unfolding questionAt lentAt
-okAt s = accepted (questionAt s) (lentAt s) (s .pre)
+okAt s = s .pre
 
 -- the two windows differ, and what in_hand left is what the builders have
 module _ (c : tie.After-in-hand) where
@@ -107,7 +107,10 @@ slice-aggregate-with-search : tie.Need-slice-aggregate-with-search
 slice-aggregate-with-search c = search needs
 
 with-search-requires : tie.Need-with-search-requires
-with-search-requires c κs = search needs
+unfolding questionAt lentAt
+with-search-requires c κs =
+    let i = c .before .before .before .before .before .before .before .before in
+    (okAt (s₀ i), (i .in-hand .ensures .1, omega arith))
 
 same-length-2 : tie.Need-same-length-2
 same-length-2 c = search needs

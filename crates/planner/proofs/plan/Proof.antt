@@ -1,11 +1,13 @@
 -- A refusal by the table, with every list as it was; else the accepted planning.
 use Prim.Native.Nat.{ℕ}
-use mathlib.Core.Path.{_≡_, refl, ap, sym, _∙_}
+use mathlib.Core.Path.{_≡_, refl, ap, sym, subst, _∙_}
 use lib.ListN.{length}
-use Rattle.replay.specs.Machine.{rules}
+use Rattle.replay.specs.Machine.{Rules, rules, above, ruled}
+use Rattle.replay.specs.Beneath.{narrowed}
 use Rattle.planner.specs.declared.Answer.{Answer}
-use Rattle.planner.specs.Refusal.{Asked, Lent, asked, allowances, lent}
-use Rattle.planner.specs.Planned.{answered}
+use Rattle.planner.specs.Refusal.{Asked, Lent, asked, allowances, lent, ruledBy, narrow, planRefusal}
+use Rattle.planner.specs.Accepted.{Accepted, accepted}
+use Rattle.planner.specs.Planned.{answered, given}
 use Rattle.planner.specs.Cases.{when-refused, when-accepted, given-accepted, work-same, work-free}
 use borrow.Author.Needs.{needs}
 use Rattle.planner.proofs.plan.Statement.{statement}
@@ -15,10 +17,23 @@ use Rattle.planner.proofs.plan.Tie as tie
 questionAt : tie.Start → Asked
 questionAt s =
     let a = s .args in
-    asked (rules (a .dup-max) (a .swap-max) (a .max-len) (a .kinds .now)) (a .prices .now) (a .start .now) (a .goal .now) (allowances (a .max-expansions) (a .states-without) (a .states-with))
+    asked (above (a .beneath) (rules (a .dup-max) (a .swap-max) (a .max-len) (a .kinds .now))) (a .prices .now) (a .start .now) (a .goal .now) (allowances (a .max-expansions) (a .states-without) (a .states-with))
 
 lentAt : tie.Start → Lent
 lentAt s = let a = s .args in lent (length (a .steps .now)) (length (a .nodes .now)) (length (a .heads .now)) (length (a .list .now))
+
+-- no number applies
+abbrev startOf : tie.Else1 → tie.Start
+startOf e = e .before .before .before .before .before .before .before .before .before .before
+
+passes : (e : tie.Else1) → planRefusal (questionAt (startOf e)) (lentAt (startOf e)) ≡ 0
+unfolding questionAt lentAt
+passes e = sym (e .before .refusal .ensures) ∙ e .if1 .left
+
+-- the rules that the question is worked out with
+runs : (c : tie.After-narrowed) → let a = startOf (c .before) .args in ruled (c .narrowed .result) (a .kinds .now) ≡ narrowed (questionAt (startOf (c .before)) .rules)
+unfolding questionAt
+runs c = c .narrowed .ensures (startOf (c .before) .args .kinds .now)
 
 refusal-requires : tie.Need-refusal-requires
 refusal-requires c κs = search needs
@@ -36,8 +51,15 @@ returns c =
       (work-same _ (s .args .nodes .now), work-same _ (s .args .heads .now), work-same _ (s .args .list .now)),
     )
 
+narrowed-requires : tie.Need-narrowed-requires
+narrowed-requires c κs = search needs
+
 accepted-plan-requires : tie.Need-accepted-plan-requires
-accepted-plan-requires c κs = search needs
+unfolding questionAt lentAt
+accepted-plan-requires c κs =
+    let n = c .before .before .before .before in
+    let s = startOf (n .before) in
+    subst (λ (q : Rules). Accepted (ruledBy q (questionAt s)) (lentAt s)) (sym (runs n)) (accepted (questionAt s) (lentAt s) (passes (n .before)))
 
 same-length : tie.Need-same-length
 same-length c = search needs
@@ -55,13 +77,12 @@ returns-2 : tie.Need-returns-2
 unfolding questionAt lentAt
 returns-2 c =
     let at-accepted-plan = c .before .before .before .before .before .before .before .before in
-    let at-if1 = at-accepted-plan .before .before .before .before .before in
-    let at-refusal = at-if1 .before in
-    let b23 = at-refusal .before .before .before .before .before .before .before .before .before in
-    let s = b23 in
+    let n = at-accepted-plan .before .before .before .before .before in
+    let s = startOf (n .before) in
     let p = at-accepted-plan .accepted-plan in
-    let z = given-accepted (questionAt s .rules) (questionAt s .start) (answered (questionAt s)) (p .result) (s .args .steps .now) (p .last .1 .1 .1 .0) (p .ensures) in (
-      p .ensures ∙ sym (when-accepted (questionAt s) (lentAt s) (s .args .steps .now) (sym (at-refusal .refusal .ensures) ∙ at-if1 .if1 .left)),
+    let e = p .ensures ∙ ap (λ (q : Rules). given q (s .args .start .now) (answered (ruledBy q (questionAt s))) (s .args .steps .now)) (runs n) in
+    let z = given-accepted (narrowed (questionAt s .rules)) (questionAt s .start) (answered (narrow (questionAt s))) (p .result) (s .args .steps .now) (p .last .1 .1 .1 .0) e in (
+      e ∙ sym (when-accepted (questionAt s) (lentAt s) (s .args .steps .now) (passes (n .before))),
       (
         work-free _ (s .args .nodes .now) (p .last .0) z (same-length-2 c),
         work-free _ (s .args .heads .now) (p .last .1 .0) z (same-length-3 c),
@@ -76,6 +97,7 @@ plan-spec =
     refusal-requires
     refused-requires
     returns
+    narrowed-requires
     accepted-plan-requires
     same-length
     same-length-2

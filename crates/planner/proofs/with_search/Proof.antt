@@ -16,13 +16,13 @@ use Rattle.problem.specs.Problem.{problemOf}
 use Rattle.run.specs.View.{allowance}
 use Rattle.run.specs.declared.Limits.{Limits}
 use Rattle.incumbent.specs.Hand.{heldOf}
-use Rattle.planner.specs.Planned.{listed, planHeld}
+use Rattle.planner.specs.Planned.{listed, planHeld, given}
 use Rattle.costs.specs.declared.Cost.{Cost}
 use Rattle.costs.specs.Laws.{kinds-length}
 use Rattle.planner.specs.declared.Answer.{Answer}
 use Rattle.planner.specs.Refusal.{Asked, Lent, asked, allowances, lent}
-use Rattle.planner.specs.Accepted.{Accepted, accepted, search-question, search-start, search-room}
-use Rattle.planner.specs.Cases.{given, foundBySearch, held-given, searched-found, searched-lost, nothing-written}
+use Rattle.planner.specs.Accepted.{Accepted, search-question, search-start, search-room}
+use Rattle.planner.specs.Cases.{foundBySearch, held-given, searched-found, searched-lost, nothing-written}
 use borrow.Author.Needs.{needs}
 use Rattle.planner.proofs.with_search.Statement.{statement}
 use Rattle.planner.proofs.with_search.Tie as tie
@@ -38,7 +38,7 @@ lentAt s = let a = s .args in lent (length (a .steps .now)) (length (a .nodes .n
 
 okAt : (s : tie.Start) → Accepted (questionAt s) (lentAt s)
 unfolding questionAt lentAt
-okAt s = accepted (questionAt s) (lentAt s) (s .pre .0)
+okAt s = s .pre .0
 
 search-from-requires : tie.Need-search-from-requires
 unfolding questionAt lentAt

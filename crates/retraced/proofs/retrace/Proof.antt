@@ -5,7 +5,7 @@ use mathlib.Core.Path.{sym, _∙_, ap}
 use native.Mathlib.Omega.{arith}
 use lib.ListN.{length, take}
 use lib.Seq.{length-take-le}
-use Rattle.replay.specs.Machine.{rules}
+use Rattle.replay.specs.Machine.{rules, above}
 use Rattle.rewind.specs.Rewind.{rewound}
 use Rattle.rewind.specs.Round.{end-within, popped-within, takes-back, takes-none}
 use Rattle.retraced.specs.Retraced.{taken-refused, taken-given}
@@ -13,17 +13,17 @@ use Rattle.retraced.proofs.retrace.Statement.{statement}
 use Rattle.retraced.proofs.retrace.Tie as tie
 
 -- the lists after a replay with no number, as stepping back is given them
-ended : (c : tie.Else1) → c .before .before .before .before .before .before .replay .result .length ≤ length (c .before .before .before .before .before .before .replay .last .1 .1 .1 .1 .1 .1 .0)
+ended : (c : tie.Else1) → c .before .before .before .before .before .before .replay .result .length ≤ length (c .before .before .before .before .before .before .replay .last .1 .1 .1 .1 .1 .1 .1 .0)
 ended c =
     let r = c .before .before .before .before .before .before in
     let a = r .before .before .before .before .before .before .before .before .before .args in
-    end-within (rules (a .dup-max) (a .swap-max) (a .max-len) (a .kinds .now)) (a .start .now) (a .steps .now) (a .result .now) (a .popped .now) (r .replay .last .1 .1 .1 .1 .1 .1 .0) (r .replay .last .1 .1 .1 .1 .1 .1 .1 .0) (r .replay .result) (r .replay .ensures) (c .if1 .left)
+    end-within (above (a .beneath) (rules (a .dup-max) (a .swap-max) (a .max-len) (a .kinds .now))) (a .start .now) (a .steps .now) (a .result .now) (a .popped .now) (r .replay .last .1 .1 .1 .1 .1 .1 .1 .0) (r .replay .last .1 .1 .1 .1 .1 .1 .1 .1 .0) (r .replay .result) (r .replay .ensures) (c .if1 .left)
 
-popped : (c : tie.After-pops) → c .pops .result ≤ length (c .before .before .before .before .before .before .before .replay .last .1 .1 .1 .1 .1 .1 .1 .0)
+popped : (c : tie.After-pops) → c .pops .result ≤ length (c .before .before .before .before .before .before .before .replay .last .1 .1 .1 .1 .1 .1 .1 .1 .0)
 popped c =
     let r = c .before .before .before .before .before .before .before in
     let a = r .before .before .before .before .before .before .before .before .before .args in
-    omega (arith, c .pops .ensures, popped-within (rules (a .dup-max) (a .swap-max) (a .max-len) (a .kinds .now)) (a .start .now) (a .steps .now) (a .result .now) (a .popped .now) (r .replay .last .1 .1 .1 .1 .1 .1 .0) (r .replay .last .1 .1 .1 .1 .1 .1 .1 .0) (r .replay .result) (r .replay .ensures) (c .before .if1 .left))
+    omega (arith, c .pops .ensures, popped-within (above (a .beneath) (rules (a .dup-max) (a .swap-max) (a .max-len) (a .kinds .now))) (a .start .now) (a .steps .now) (a .result .now) (a .popped .now) (r .replay .last .1 .1 .1 .1 .1 .1 .1 .0) (r .replay .last .1 .1 .1 .1 .1 .1 .1 .1 .0) (r .replay .result) (r .replay .ensures) (c .before .if1 .left))
 
 replay-requires : tie.Need-replay-requires
 replay-requires c κs = search needs
@@ -73,9 +73,9 @@ returns-2 c =
     let p = w .before .before .before .before in
     let r = p .before .before .before .before .before .before .before in
     let a = r .before .before .before .before .before .before .before .before .before .args in
-    let q = rules (a .dup-max) (a .swap-max) (a .max-len) (a .kinds .now) in
-    let new = r .replay .last .1 .1 .1 .1 .1 .1 .0 in
-    let keys = r .replay .last .1 .1 .1 .1 .1 .1 .1 .0 in
+    let q = above (a .beneath) (rules (a .dup-max) (a .swap-max) (a .max-len) (a .kinds .now)) in
+    let new = r .replay .last .1 .1 .1 .1 .1 .1 .1 .0 in
+    let keys = r .replay .last .1 .1 .1 .1 .1 .1 .1 .1 .0 in
     let z = p .before .if1 .left in
     let back = w .rewind .ensures .0 ∙ ap (λ (n : ℕ). rewound q (take (r .replay .result .length) new) (a .steps .now) (take n keys) (a .again .now)) (p .pops .ensures) in (
       r .replay .ensures,

@@ -1,6 +1,6 @@
 -- The rows of the table, each by what its function ensures.
 use borrow.Author.Needs.{needs}
-use Rattle.rewind.specs.Rewind.{rewindRefusal}
+use Rattle.rewind.specs.Rewind.{rewindTable}
 use Rattle.rewind.proofs.refusal.Statement.{statement}
 use Rattle.rewind.proofs.refusal.Tie as tie
 
@@ -9,6 +9,9 @@ row-requires c κs = search needs
 
 row-requires-2 : tie.Need-row-requires-2
 row-requires-2 c κs = search needs
+
+too-tall-requires : tie.Need-too-tall-requires
+too-tall-requires c κs = search needs
 
 any-over-requires : tie.Need-any-over-requires
 any-over-requires c κs = search needs
@@ -40,22 +43,33 @@ reach-fault-requires c κs = search needs
 row-requires-7 : tie.Need-row-requires-7
 row-requires-7 c κs = search needs
 
+row-requires-8 : tie.Need-row-requires-8
+row-requires-8 c κs = search needs
+
 returns : tie.Need-returns
-unfolding rewindRefusal
+unfolding rewindTable
 returns c =
+    let two = c .before .before in
+    let four = two .before .before in
+    let five = four .before .before in
+    let keys = five .before in
+    let twelve = keys .before .before .before in
+    let six = twelve .before .before in
     rw (
-      c .row7 .ensures,
+      c .row8 .ensures,
       c .before .reach-fault .ensures,
-      c .before .before .row6 .ensures,
-      c .before .before .before .row5 .ensures,
-      c .before .before .before .before .row4 .ensures,
-      c .before .before .before .before .before .kinds-fault .ensures,
-      c .before .before .before .before .before .before .row3 .ensures,
-      c .before .before .before .before .before .before .before .either .ensures,
-      c .before .before .before .before .before .before .before .before .any-over2 .ensures,
-      c .before .before .before .before .before .before .before .before .before .any-over .ensures,
-      c .before .before .before .before .before .before .before .before .before .before .row2 .ensures,
-      c .before .before .before .before .before .before .before .before .before .before .before .row .ensures,
+      two .row7 .ensures,
+      two .before .row6 .ensures,
+      four .row5 .ensures,
+      four .before .kinds-fault .ensures,
+      five .row4 .ensures,
+      keys .either .ensures,
+      keys .before .any-over2 .ensures,
+      keys .before .before .any-over .ensures,
+      twelve .row3 .ensures,
+      twelve .before .too-tall .ensures,
+      six .row2 .ensures,
+      six .before .row .ensures,
     )
 
 pub refusal-spec : {M : Type 1} → statement M
@@ -64,14 +78,16 @@ refusal-spec =
     (tie.spec
     row-requires
     row-requires-2
+    too-tall-requires
+    row-requires-3
     any-over-requires
     any-over-requires-2
     either-requires
-    row-requires-3
-    kinds-fault-requires
     row-requires-4
+    kinds-fault-requires
     row-requires-5
     row-requires-6
-    reach-fault-requires
     row-requires-7
+    reach-fault-requires
+    row-requires-8
     returns)

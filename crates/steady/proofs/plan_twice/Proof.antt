@@ -1,6 +1,6 @@
 -- The claim about two answers, from what the planner ensures of each.
 use borrow.Author.Needs.{needs}
-use Rattle.replay.specs.Machine.{rules}
+use Rattle.replay.specs.Machine.{rules, above}
 use Rattle.planner.specs.Refusal.{asked, allowances, lent}
 use Rattle.planner.specs.Steady.{demand-3-called}
 use Rattle.steady.proofs.plan_twice.Statement.{statement}
@@ -42,7 +42,7 @@ returns c e w v h k =
     let p = c .before .before .before .before .before .before .before .before .before .before .before .before .before .before .before .before .before .before .before .before .before .plan in
     let q = c .before .before .before .before .before .before .before .before .plan2 in
     demand-3-called
-    (asked (rules (a .dup-max) (a .swap-max) (a .max-len) (a .kinds .now)) (a .prices .now) (a .start .now) (a .goal .now) (allowances 0 0 0))
+    (asked (above (a .beneath) (rules (a .dup-max) (a .swap-max) (a .max-len) (a .kinds .now))) (a .prices .now) (a .start .now) (a .goal .now) (allowances 0 0 0))
     (allowances (a .low .«max_expansions») (a .low .«states_without») (a .low .«states_with»))
     (allowances (a .high .«max_expansions») (a .high .«states_without») (a .high .«states_with»))
     _
