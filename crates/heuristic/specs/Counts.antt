@@ -13,8 +13,8 @@ use borrow.Author.Tests.{eq-eqb, ne-eqb, eqb-true, eqb-false, lt-ltb, le-ltb}
 use Rattle.costs.specs.Cost.{capped}
 use Rattle.costs.specs.Choice.{_if_otherwise_}
 use Rattle.costs.specs.Table.{countOf}
-use Rattle.costs.specs.declared.Step.the-variants.{Pop, Dup, PushImm}
-use Rattle.heuristic.specs.Heuristic.{times, gasOf, term, sumTo, leastDup}
+use Rattle.costs.specs.declared.Step.the-variants.{Pop, PushImm}
+use Rattle.heuristic.specs.Heuristic.{times, gasOf, term, sumTo}
 
 -- the table has the count of each key in the list
 pub record Counted (table xs : List ℕ) : Type 0 where
@@ -113,10 +113,6 @@ sum-turn f n = rw (add-one n)
 pub sum-on : (f : ℕ → ℕ) (n s t r : ℕ) → s ≡ sumTo f n → t ≡ f n → r ≡ capped s t → r ≡ sumTo f (n + 1)
 sum-on f n s t r a b e = e ∙ rw (a, b) (sym (sum-turn f n))
 
-pub least-on : (prices : List ℕ) (n b g r : ℕ) → b ≡ leastDup prices n → g ≡ gasOf prices (Dup n) → r ≡ min b g → r ≡ leastDup prices (n + 1)
-unfolding leastDup
-least-on prices n b g r p q e = rw (add-one n, ← p, ← q) e
-
 pub product-fits : (a b : ℕ) → a ≤ 4294967295 → b ≤ 4294967295 → a * b ≤ 18446744065119617025
 product-fits a b h k = mul-le-mul h k
 
@@ -136,9 +132,6 @@ count-on table next list i x p l f e h c = rw (h, e) (count-turn table list i p 
 
 pub sum-end : (f : ℕ → ℕ) (n m s : ℕ) → n ≤ m → m ≤ n → s ≡ sumTo f n → s ≡ sumTo f m
 sum-end f n m s a b e = let z : m ≡ n = omega arith in rw z e
-
-pub least-end : (prices : List ℕ) (n m s : ℕ) → n ≤ m → m ≤ n → s ≡ leastDup prices n → s ≡ leastDup prices m
-least-end prices n m s a b e = let z : m ≡ n = omega arith in rw z e
 
 -- the Rust adds a first copy and the other copies one after the other: sums that stop may be grouped
 pub grouped : (g a b : ℕ) → capped (capped g a) b ≡ capped g (capped a b)

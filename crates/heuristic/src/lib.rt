@@ -12,6 +12,7 @@ ghost use Rattle.heuristic.specs.Heuristic.{times, gasOf, leastDup, term
 ghost use Rattle.heuristic.specs.Counts.{Counted, KeysFit, countTerm};
 ghost use Rattle.heuristic.specs.Steady.{Changing, Standing};
 ghost use Rattle.heuristic.specs.Bare.{bareTerm, overKeys};
+ghost use Rattle.heuristic.specs.LeastDup.{gasInHand, LeastTaken};
 
 // A number of a table of keys.
 pub fn at(table: &[u8], key: u8) -> u8
@@ -81,18 +82,30 @@ fn gas_of(prices: &[u32], step: Step) -> u32
     cost.gas
 }
 
-// The least gas of a Dup.
+// One Dup's price taken: from the number in hand after i prices to that after i + 1. The Dup is dup_max - 1 - i, the deepest not yet taken.
+fn take_dup(prices: &[u32], dup_max: usize, i: usize, in_hand: u32) -> u32
+    requires { ⌜ (i < «dup_max») × («dup_max» ≤ 16) ⌝ }
+    requires { ⌜ «in_hand» ≡ gasInHand (now prices) «dup_max» i ⌝ }
+    ensures { λ r. ⌜ r ≡ gasInHand (now (prices .entry)) «dup_max» (i + 1) ⌝ }
+    ensures { λ r. ⌜ LeastTaken (now (prices .entry)) «dup_max» (i + 1) r ⌝ }
+{
+    let p = dup_max - 1 - i;
+    lesser(in_hand, gas_of(prices, Step::Dup(p as u8)))
+}
+
+// The least gas of a Dup: the number in hand after the prices of all Dups below dup_max.
 pub fn least_dup(prices: &[u32], dup_max: usize) -> u32
     requires { ⌜ «dup_max» ≤ 16 ⌝ }
+    ensures { λ r. ⌜ r ≡ gasInHand (now (prices .entry)) «dup_max» «dup_max» ⌝ }
     ensures { λ r. ⌜ r ≡ leastDup (now (prices .entry)) «dup_max» ⌝ }
 {
-    let mut best = 4294967295;
-    let mut p = 0;
-    while p < dup_max {
-        best = lesser(best, gas_of(prices, Step::Dup(p as u8)));
-        p += 1;
+    let mut in_hand = 4294967295;
+    let mut i = 0;
+    while i < dup_max {
+        in_hand = take_dup(prices, dup_max, i, in_hand);
+        i += 1;
     }
-    best
+    in_hand
 }
 
 // What a key adds that is there so often and wanted so often.

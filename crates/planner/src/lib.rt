@@ -375,8 +375,8 @@ fn accepted_plan(
     )
 }
 
-// The model plan of a question, over the first places of the step list, and its pass mark; or the number that refuses it. It is worked out with
-// the rules narrowed by the items beneath (replay's law `may-grow`).
+// The model plan of a question, over the first places of the step list, and its pass mark; or the number that refuses it. It is worked out
+// with the rules narrowed by the items beneath (replay's law `may-grow`).
 pub fn plan(
     start: &[u8],
     goal: &[u8],

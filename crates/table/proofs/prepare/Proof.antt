@@ -62,7 +62,7 @@ returns c =
     let s = at-count-list .before .before .before .before .before .before in
     all-prepared _ _ _ _ (s .pre .1) _ _ _ _ _ _ _ _ _ (at-put .put .ensures) (at-put2 .put2 .ensures) (at-put3 .put3 .ensures)
     (at-put-keys .put-keys .ensures .0) (s .pre .0) (at-put-keys .put-keys .ensures .1) (at-count-list .count-list .ensures)
-    (at-distinct-keys .distinct-keys .ensures) (at-least-dup .least-dup .ensures)
+    (at-distinct-keys .distinct-keys .ensures) (at-least-dup .least-dup .ensures .1)
 
 pub prepare-spec : {M : Type 1} → statement M
 prepare-spec =
