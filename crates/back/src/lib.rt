@@ -1,4 +1,6 @@
 // Reads the plan of the goal back from the node list into a lent list of step codes: counts the steps, then writes them from the end.
+#![tactic(auto)]
+
 ghost use Rattle.std.specs.Prelude.{◌≡◌, ℕ, suc, ◌+◌, ◌-◌, ◌*◌, ◌<◌, ◌≤◌, length};
 ghost use Rattle.std.proofs.Math.Option.{some};
 ghost use Rattle.window.specs.State.{whole};
@@ -8,7 +10,7 @@ ghost use Rattle.back.specs.Back.{count_back, Counted, Written, ReadBack};
 use lists::{Known, Parent};
 use window::PackedState;
 
-#[derive(Drop)]
+#[derive(Clone, Copy)]
 pub enum Back {
     Steps(usize),
     Lost,

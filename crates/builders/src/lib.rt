@@ -1,4 +1,6 @@
 // The builders: plans made without a search.
+#![tactic(auto)]
+
 ghost use Rattle.std.specs.Prelude.{◌≡◌, ◌||◌, not, ◌++◌, ◌+◌, ◌-◌, ◌<◌, ◌≤◌, min, length, take, drop};
 ghost use Rattle.window.specs.Keys.{keys_of, Window as Packed};
 ghost use Rattle.replay.specs.Laws.{Ready};
@@ -23,28 +25,28 @@ use star_swap::Written;
 use window::PackedState;
 
 // Where the steps so far lead to: the window and the number of the steps. The steps stand in a list of 128 places.
-#[derive(Drop)]
+#[derive(Clone, Copy)]
 pub struct Place {
     pub state: PackedState,
     pub count: usize,
 }
 
 // Where a builder is, and whether it has come so far.
-#[derive(Drop)]
+#[derive(Clone, Copy)]
 pub struct Reach {
     pub ok: bool,
     pub at: Place,
 }
 
 // Where a key stands that is to go, and how many keys there are; the two are the same if there is none.
-#[derive(Drop)]
+#[derive(Clone, Copy)]
 struct Surplus {
     at: usize,
     of: usize,
 }
 
 // What a builder answers: the number of its steps, or that it has none.
-#[derive(Drop)]
+#[derive(Clone, Copy)]
 pub enum Built {
     Plan(usize),
     Nothing,

@@ -1,5 +1,7 @@
 // The public calls as C functions on numbers and slices (a slice passes as a pointer, then a length). Each is one call, with its contract.
 // include/nimskerf_proved.h declares them; c/nimskerf.c, which C programs call, checks pointers and hands on.
+#![tactic(auto)]
+
 ghost use Rattle.std.specs.Prelude.{◌≡◌, length};
 ghost use Rattle.costs.specs.Table.{count_of};
 ghost use Rattle.window.specs.Packing.{packing};

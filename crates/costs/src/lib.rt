@@ -1,4 +1,6 @@
 // Costs, stack steps, the price list, and the checks of the two tables.
+#![tactic(auto)]
+
 ghost use Rattle.std.specs.Prelude.{◌≡◌, ◌<◌, ◌≤◌, max, ◌||◌, get_or, length};
 ghost use Rattle.costs.specs.Choice.{◌if◌otherwise◌};
 ghost use Rattle.costs.specs.Cost.{capped, none, plus, no_more};
@@ -9,13 +11,13 @@ ghost use Rattle.costs.specs.Price.{price_of, cost_for_steps};
 ghost use Rattle.costs.specs.Packed.{cost_of};
 
 // A cost. Costs compare by gas, then bytes.
-#[derive(Drop)]
+#[derive(Clone, Copy)]
 pub struct Cost {
     pub gas: u32,
     pub bytes: u32,
 }
 
-#[derive(Drop)]
+#[derive(Clone, Copy)]
 pub enum Step {
     Pop,
     Dup(u8),
@@ -25,7 +27,7 @@ pub enum Step {
 }
 
 // What a step code stands for.
-#[derive(Drop)]
+#[derive(Clone, Copy)]
 pub enum Decoded {
     Known(Step),
     Unknown,

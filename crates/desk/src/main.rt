@@ -8,6 +8,8 @@
 // No contract can say what a call reads or writes. Proved: each turn feeds what its read left in the buffer, once (`hear`); the loop
 // does nothing else to the reader (`listen`); the answer is that to all the pieces in a row (`reply`). Tested by tests/desk.c: that the
 // pieces are the input, that a passing failure is tried again, and that all of the answer is written or its failure said.
+#![tactic(auto)]
+
 ghost use Rattle.std.specs.Prelude.{◌≡◌, ◌≤◌, length, take};
 ghost use Rattle.desk_text.specs.Noted.{noted};
 ghost use Rattle.desk_text.specs.Reader.{Sound, Fed};
@@ -20,7 +22,7 @@ use libc::types::timespec;
 use libc::{STDIN_FILENO, STDOUT_FILENO};
 
 // A piece of the input: the reader that was fed with it, how many bytes it has, and whether reading failed.
-#[derive(Drop)]
+#[derive(Clone, Copy)]
 struct Turn {
     reader: Reader,
     count: usize,
@@ -28,14 +30,14 @@ struct Turn {
 }
 
 // The answer's length, if the input is whole.
-#[derive(Drop)]
+#[derive(Clone, Copy)]
 struct Said {
     whole: bool,
     count: usize,
 }
 
 // A write: how many bytes were taken, and whether it failed.
-#[derive(Drop)]
+#[derive(Clone, Copy)]
 struct Put {
     count: usize,
     failed: bool,

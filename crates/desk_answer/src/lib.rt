@@ -1,4 +1,6 @@
 // The desk's answer: from what was read to the text that is written.
+#![tactic(auto)]
+
 ghost use Rattle.std.specs.Prelude.{◌≡◌, ◌≤◌, length};
 ghost use Rattle.desk_text.specs.Noted.{noted};
 ghost use Rattle.desk_text.specs.Question.{question_of};

@@ -2,13 +2,15 @@
 //
 // The table is the standard input. A case is `name|input|expected|`, with a line feed before the next; in an input a `*` stands for
 // 1,000 digits `0`. The program writes how many inputs were answered as expected, or the index and the name of the first that was not.
+#![tactic(auto)]
+
 ghost use Rattle.std.specs.Prelude.{◌≡◌, ◌≤◌, length};
 
 use desk_answer::answer;
 use libc::{STDIN_FILENO, STDOUT_FILENO};
 
 // A case: where its name ends, whether it is whole, whether the answer is the expected one, and the place behind it.
-#[derive(Drop)]
+#[derive(Clone, Copy)]
 struct Case {
     named: usize,
     whole: bool,

@@ -7,7 +7,7 @@ ghost use Rattle.desk_text.specs.Put.{Put, PutIn, Spelled, parted};
 use costs::{Decoded, Step};
 
 // The planner's nine fields and the highest window.
-#[derive(Drop)]
+#[derive(Clone, Copy)]
 pub struct Fields {
     pub found: usize,
     pub step_count: usize,
@@ -22,7 +22,7 @@ pub struct Fields {
 }
 
 // What the desk says.
-#[derive(Drop)]
+#[derive(Clone, Copy)]
 pub enum Spoken {
     Plan(Fields),
     Refused(usize),
@@ -30,7 +30,7 @@ pub enum Spoken {
 }
 
 // The digits of a number: the last places of an array.
-#[derive(Drop)]
+#[derive(Clone, Copy)]
 struct Digits {
     first: usize,
     bytes: [u8; 20],

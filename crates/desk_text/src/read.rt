@@ -7,7 +7,7 @@ ghost use Rattle.desk_text.specs.Machine.{no_numbers, fresh, lost, kept, word_en
 ghost use Rattle.desk_text.specs.Reader.{Sound, Fed, Zeros, AtZero, Idle, Settled, Finished};
 
 // The first line.
-#[derive(Drop)]
+#[derive(Clone, Copy)]
 pub struct Limits {
     pub dup_max: usize,
     pub swap_max: usize,
@@ -18,7 +18,7 @@ pub struct Limits {
 }
 
 // What the desk's input asks: the limits and how many keys start and goal have.
-#[derive(Drop)]
+#[derive(Clone, Copy)]
 pub enum Reading {
     Question {
         limits: Limits,
@@ -30,7 +30,7 @@ pub enum Reading {
 
 // Where the reader stands after the bytes read so far. It is handed on at each byte, so it is 16 bytes without a gap; the numbers
 // stand in a list that is lent, 64 places to a line.
-#[derive(Drop)]
+#[derive(Clone, Copy)]
 pub struct Reader {
     // The value of the word's digits.
     value: usize,

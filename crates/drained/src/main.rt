@@ -1,4 +1,6 @@
 // The same entries drained through the face and through the heap over a list of numbers, and the two orders compared.
+#![tactic(auto)]
+
 ghost use Rattle.std.specs.Prelude.{◌≡◌, true, ◌<◌, ◌≤◌, length};
 ghost use Rattle.face.specs.Open.{entry_of, queue_in};
 ghost use Rattle.lists.specs.View.{waits, queue_of, Piled};

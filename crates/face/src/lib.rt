@@ -1,5 +1,7 @@
 // The open list as a slice of entries: a face of the open list, over a lent slice that keeps them in any order. The caller keeps the
 // count. It promises of the queue what the heap over a list of numbers does.
+#![tactic(auto)]
+
 ghost use Rattle.std.specs.Prelude.{◌≡◌, ◌<◌, ◌+◌, ◌≤◌, length, ltb, leb, ◌&&◌};
 ghost use Rattle.window.specs.State.{whole};
 ghost use Rattle.astar.specs.Cost.{lex};
@@ -9,7 +11,7 @@ use costs::Cost;
 use window::PackedState;
 
 // An open entry. It comes before others by f, then g, then the state as an integer.
-#[derive(Drop)]
+#[derive(Clone, Copy)]
 pub struct Entry {
     pub f: Cost,
     pub g: Cost,
@@ -17,7 +19,7 @@ pub struct Entry {
 }
 
 // The least entry, if there is one.
-#[derive(Drop)]
+#[derive(Clone, Copy)]
 pub enum Least {
     Is(Entry),
     Empty,

@@ -1,4 +1,6 @@
 // The heuristic of the search: what is left to pop, to copy and to materialize, key by key.
+#![tactic(auto)]
+
 ghost use Rattle.std.specs.Prelude.{◌≡◌, List, [], ◌∷◌, ℕ, ◌+◌, ◌-◌, ◌<◌, ◌≤◌, min, length, get_or, set};
 ghost use Rattle.costs.specs.declared.Step.{Step};
 ghost use Rattle.window.specs.Keys.{keys_of, Window};

@@ -1,4 +1,6 @@
 // The bound before the search: the flush cost, and the builders' plans.
+#![tactic(auto)]
+
 ghost use Rattle.std.specs.Prelude.{◌≡◌, ◌+◌, ◌-◌, ◌<◌, ◌≤◌, min, length, take};
 ghost use Rattle.costs.specs.Table.{kinds_fault};
 ghost use Rattle.replay.specs.Machine.{ruled};
@@ -16,7 +18,7 @@ use costs::{Cost, Decoded, Step};
 use replay::SearchCfg;
 
 // The bound, whose plan it is (0 none, 1 delete-tail, 2 dup-and-star), and the number of its steps.
-#[derive(Drop)]
+#[derive(Clone, Copy)]
 pub struct Hand {
     pub bound: Cost,
     pub origin: u32,

@@ -1,5 +1,7 @@
 // The node list and the open list as the search uses them. A node is a struct that holds its parent; it goes to and from the
 // numbers of a row in `row_of` and `node_of`, and nowhere else.
+#![tactic(auto)]
+
 ghost use Rattle.std.specs.Prelude.{◌≡◌, ℕ, ◌+◌, ◌-◌, ◌*◌, ◌<◌, ◌≤◌, length};
 ghost use Rattle.astar.specs.Search.{find as found};
 ghost use Rattle.costs.specs.Step.{code_of};
@@ -12,14 +14,14 @@ use nodes::{Found, Row};
 use window::PackedState;
 
 // How a state was reached: the start, or by a step from a state.
-#[derive(Drop)]
+#[derive(Clone, Copy)]
 pub enum Parent {
     Start,
     By(PackedState, Step),
 }
 
 // What the search knows of a state. A cost is gas * 2^32 + bytes.
-#[derive(Drop)]
+#[derive(Clone, Copy)]
 pub struct Node {
     pub state: PackedState,
     pub cost: u64,
@@ -27,7 +29,7 @@ pub struct Node {
 }
 
 // What is known of a state, if anything.
-#[derive(Drop)]
+#[derive(Clone, Copy)]
 pub enum Known {
     Is(Node),
     New,

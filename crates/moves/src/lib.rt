@@ -1,4 +1,6 @@
 // From a step code to the window after the step, its price and its estimate.
+#![tactic(auto)]
+
 ghost use Rattle.std.specs.Prelude.{◌≡◌, List, [], ◌∷◌, ℕ, ◌+◌, ◌-◌, ◌*◌, ◌<◌, ◌≤◌, length, get_or};
 ghost use Rattle.costs.specs.Packed.{cost_of};
 ghost use Rattle.costs.specs.Price.{pair_at};
@@ -13,7 +15,7 @@ ghost use Rattle.moves.specs.Moves.{Doable, Parent, Asking, Formed, Leads, Told,
 use costs::{Cost, Step};
 use window::PackedState;
 
-#[derive(Drop)]
+#[derive(Clone, Copy)]
 pub struct Move {
     pub hi: u64,
     pub lo: u64,

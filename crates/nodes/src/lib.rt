@@ -1,16 +1,18 @@
 // The node list: a map from a state (hi, lo) to what the search knows of it, in two lent lists of numbers. Node i stands at
 // i * 8: hi, lo, cost, parent hi, parent lo, step, next, spare. `heads` has a bucket at each place, and needs no clearing.
+#![tactic(auto)]
+
 ghost use Rattle.std.specs.Prelude.{◌≡◌, ℕ, ◌+◌, ◌*◌, ◌<◌, ◌≤◌, min, List, ◌∷◌, true, length, get_or};
 ghost use Rattle.nodes.specs.Nodes.{Chained, bucket_of, rows, lookup, written, row_at, is_state, Wrote};
 
-#[derive(Drop)]
+#[derive(Clone, Copy)]
 pub enum Found {
     At(usize),
     Nothing,
 }
 
 // What the search knows of a state.
-#[derive(Drop)]
+#[derive(Clone, Copy)]
 pub struct Row {
     pub hi: u64,
     pub lo: u64,

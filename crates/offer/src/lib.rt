@@ -1,4 +1,6 @@
 // Offering a successor to the node list and the open list, and the plan in hand. Costs are numbers, gas * 2^32 + bytes.
+#![tactic(auto)]
+
 ghost use Rattle.std.specs.Prelude.{◌≡◌, ℕ, ◌+◌, ◌-◌, ◌*◌, ◌<◌, ◌≤◌, length};
 ghost use Rattle.costs.specs.Packed.{cost_of};
 ghost use Rattle.algebra.specs.GasBytes.{«gas_bytes»};
@@ -14,7 +16,7 @@ use nodes::Found;
 use window::PackedState;
 
 // A successor: its state, the step's price, the state's estimate, and the step.
-#[derive(Drop)]
+#[derive(Clone, Copy)]
 pub struct Successor {
     pub state: PackedState,
     pub price: u64,
@@ -23,7 +25,7 @@ pub struct Successor {
 }
 
 // The plan in hand, and the last goal recorded.
-#[derive(Drop)]
+#[derive(Clone, Copy)]
 pub struct Held {
     pub bound: u64,
     pub have: bool,
@@ -32,20 +34,20 @@ pub struct Held {
 }
 
 // How many nodes and open entries there are.
-#[derive(Drop)]
+#[derive(Clone, Copy)]
 pub struct Sizes {
     pub nodes: usize,
     pub list: usize,
 }
 
 // A state that is expanded, and its cost.
-#[derive(Drop)]
+#[derive(Clone, Copy)]
 pub struct Origin {
     pub state: PackedState,
     pub cost: u64,
 }
 
-#[derive(Drop)]
+#[derive(Clone, Copy)]
 pub struct Admission {
     pub stored: bool,
     pub nodes: usize,

@@ -1,4 +1,6 @@
 // The planner: the model plan of a question, and its pass mark.
+#![tactic(auto)]
+
 ghost use Rattle.std.specs.Prelude.{◌≡◌, ◌||◌, ◌+◌, ◌≤◌, max, eqb, ltb, length};
 ghost use Rattle.costs.specs.Choice.{◌if◌otherwise◌};
 ghost use Rattle.costs.specs.Table.{any_over, kinds_fault, prices_fault};
@@ -23,7 +25,7 @@ use window::PackedState;
 
 // What the planner answers: the number of a refusal or 0, document 01's nine fields, and the plan's highest window.
 #[repr(C)]
-#[derive(Drop)]
+#[derive(Clone, Copy)]
 pub struct Answer {
     pub refusal: u32,
     pub found: u32,
@@ -39,7 +41,7 @@ pub struct Answer {
 }
 
 // Expansions, and states without and with a plan in hand.
-#[derive(Drop)]
+#[derive(Clone, Copy)]
 pub struct Allowances {
     pub max_expansions: usize,
     pub states_without: usize,
@@ -47,7 +49,7 @@ pub struct Allowances {
 }
 
 // The lengths of the lent lists.
-#[derive(Drop)]
+#[derive(Clone, Copy)]
 pub struct Lengths {
     pub steps: usize,
     pub nodes: usize,

@@ -1,4 +1,6 @@
 // Replay and stepping back as a caller meets them together: what replay gives, stepping back takes back.
+#![tactic(auto)]
+
 ghost use Rattle.std.specs.Prelude.{◌≡◌};
 ghost use Rattle.replay.specs.Machine.{plain_rules, above};
 ghost use Rattle.replay.specs.Replay.{replayed};
@@ -8,7 +10,7 @@ use replay::Replayed;
 use rewind::Rewound;
 
 // The two answers.
-#[derive(Drop)]
+#[derive(Clone, Copy)]
 pub struct Retraced {
     pub forth: Replayed,
     pub back: Rewound,

@@ -1,4 +1,6 @@
 // Stepping back: the start from which steps led to an end window.
+#![tactic(auto)]
+
 ghost use Rattle.std.specs.Prelude.{◌≡◌, List, reverse, ℕ, ◌≤◌, length, take};
 ghost use Rattle.costs.specs.Step.{decoded};
 ghost use Rattle.window.specs.Pack.{Keys};
@@ -16,14 +18,14 @@ use window::PackedState;
 
 // What stepping back answers: the number of a refusal or 0, the start's length.
 #[repr(C)]
-#[derive(Drop)]
+#[derive(Clone, Copy)]
 pub struct Rewound {
     pub refusal: u32,
     pub length: usize,
 }
 
 // A step that was undone: whether it can have led here, the window before it, and how many popped keys are not yet put back.
-#[derive(Drop)]
+#[derive(Clone, Copy)]
 struct Undone {
     ok: bool,
     state: PackedState,

@@ -1,4 +1,6 @@
 // A run of the search over lent lists: each pass of its loop is one turn of document 01.
+#![tactic(auto)]
+
 ghost use Rattle.std.specs.Prelude.{◌≡◌, cond, ◌||◌, ℕ, ◌+◌, ◌-◌, ◌*◌, ◌<◌, ◌≤◌, ltb, length};
 ghost use Rattle.algebra.specs.GasBytes.{«gas_bytes»};
 ghost use Rattle.astar.specs.Valid.{AllValid};
@@ -13,14 +15,14 @@ use search::Setup;
 use window::PackedState;
 
 // The start and the goal.
-#[derive(Drop)]
+#[derive(Clone, Copy)]
 pub struct Ask {
     pub start: PackedState,
     pub goal: PackedState,
 }
 
 // Expansions, and states without and with a plan in hand.
-#[derive(Drop)]
+#[derive(Clone, Copy)]
 pub struct Limits {
     pub most: usize,
     pub plain: usize,
@@ -28,7 +30,7 @@ pub struct Limits {
 }
 
 // What a run leaves.
-#[derive(Drop)]
+#[derive(Clone, Copy)]
 pub struct Left {
     pub held: Held,
     pub nodes: usize,

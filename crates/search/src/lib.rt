@@ -1,5 +1,7 @@
 // The expansion of a state: its successors, each offered to the lists. `table` holds the kinds, the counts of the goal's keys, the
 // goal, and the goal's keys each once.
+#![tactic(auto)]
+
 ghost use Rattle.std.specs.Prelude.{◌≡◌, [], map, ℕ, ◌+◌, ◌-◌, ◌*◌, ◌<◌, ◌≤◌, length, take};
 ghost use Rattle.costs.specs.Step.{code_of};
 ghost use Rattle.window.specs.State.{whole};
@@ -23,7 +25,7 @@ use replay::SearchCfg;
 use window::PackedState;
 
 // The limits, how many keys the goal has in the table and how many of them are distinct, and the least gas of a Dup.
-#[derive(Drop)]
+#[derive(Clone, Copy)]
 pub struct Setup {
     pub cfg: SearchCfg,
     pub goal: usize,

@@ -1,4 +1,6 @@
 // A whole search: begin, run, read the plan back, and what a caller gets.
+#![tactic(auto)]
+
 ghost use Rattle.std.specs.Prelude.{◌≡◌, true, false, ℕ, ◌+◌, ◌-◌, ◌*◌, ◌<◌, ◌≤◌, length, take, drop};
 ghost use Rattle.costs.specs.Packed.{cost_of};
 ghost use Rattle.window.specs.State.{whole};
@@ -23,7 +25,7 @@ use search::Setup;
 use window::PackedState;
 
 // What a run left, and the plan that was read back.
-#[derive(Drop)]
+#[derive(Clone, Copy)]
 pub struct Planning {
     pub left: Left,
     pub back: Back,
@@ -31,7 +33,7 @@ pub struct Planning {
 
 // What a search came to: whether it found a plan, and how many steps of the step list that is; the plan's cost and ceiling; the ending
 // and the expansions. Without a plan the first four are 0.
-#[derive(Drop)]
+#[derive(Clone, Copy)]
 pub struct Outcome {
     pub found: bool,
     pub steps: usize,

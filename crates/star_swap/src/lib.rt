@@ -1,4 +1,6 @@
 // Star-swap: the call, its checks, and the trail over the lists of slots by key.
+#![tactic(auto)]
+
 ghost use Rattle.std.specs.Prelude.{◌≡◌, ◌+◌, ◌≤◌, ◌<◌, length, replicate, drop};
 ghost use Rattle.star_swap.specs.Chain.{Ready, Given};
 ghost use Rattle.star_swap.specs.StarLoop.{Appended};
@@ -236,7 +238,7 @@ fn swap_refusal(start: &[u8], goal: &[u8], swap_max: usize, places: usize) -> u3
 
 // What star-swap and delete-tail answer: the number of a refusal or 0, and the number of steps written.
 #[repr(C)]
-#[derive(Drop)]
+#[derive(Clone, Copy)]
 pub struct Written {
     pub refusal: u32,
     pub count: usize,

@@ -1,18 +1,20 @@
 // Demand 3 as a caller meets it: one question planned twice, under allowances of which none is lower the second time.
+#![tactic(auto)]
+
 ghost use Rattle.std.specs.Prelude.{◌≡◌, ◌≤◌};
 ghost use Rattle.planner.specs.Steady.{Demand3};
 
 use planner::Answer;
 
 // The two answers.
-#[derive(Drop)]
+#[derive(Clone, Copy)]
 pub struct Twice {
     pub first: Answer,
     pub second: Answer,
 }
 
 // The allowances, in document 01's order.
-#[derive(Drop)]
+#[derive(Clone, Copy)]
 pub struct Allowed {
     pub max_expansions: usize,
     pub states_without: usize,

@@ -1,4 +1,6 @@
 // The steps to the successors of a window, in order, by their codes.
+#![tactic(auto)]
+
 ghost use Rattle.std.specs.Prelude.{◌≡◌, [], ◌∷◌, ◌++◌, ◌+◌, ◌-◌, ◌<◌, ◌≤◌, min, length, get_or, take};
 ghost use Rattle.replay.specs.Machine.{room};
 ghost use Rattle.window.specs.Keys.{keys_of, Window};
@@ -61,7 +63,7 @@ fn suffix_start(w: &[u8], goal: &[u8]) -> usize
 }
 
 // The keys of a list in order, each once.
-#[derive(Drop)]
+#[derive(Clone, Copy)]
 pub struct Distinct {
     pub keys: [u8; 21],
     pub n: usize,

@@ -1,4 +1,6 @@
 // Makes the table of a question: the kinds, the counts of the goal's keys, the goal, and the goal's keys each once.
+#![tactic(auto)]
+
 ghost use Rattle.std.specs.Prelude.{◌≡◌, ℕ, ◌+◌, ◌-◌, ◌<◌, ◌≤◌, min, length, take};
 ghost use Rattle.successors.specs.Kept.{kept};
 ghost use Rattle.table.specs.Table.{Put, Accepted, Prepared};

@@ -165,7 +165,7 @@ pub fn has(rec: &[u8], tag: u8) -> bool
 }
 
 // The reaches, the greatest length and the allowances.
-#[derive(Drop)]
+#[derive(Clone, Copy)]
 pub struct Limits {
     pub dup_max: usize,
     pub swap_max: usize,

@@ -1,4 +1,6 @@
 // Replays a list of answers of the Rust, and of refusals, and says whether the calls answer the same.
+#![tactic(auto)]
+
 mod compare;
 mod file;
 mod lists;
@@ -12,7 +14,7 @@ use lists::{cut8, cut16, cut32, cut64, fill_result, fill_steps, fill_work};
 
 // How many records are read, which differs first and how many differ. Where the file is not sound: the record that cannot be read, and its
 // strange field.
-#[derive(Drop)]
+#[derive(Clone, Copy)]
 struct Tally {
     sound: bool,
     records: usize,

@@ -1,11 +1,13 @@
 // Packed windows: at most 21 keys of 6 bits, the top key lowest, and a marker bit above them, in two halves of 64 bits.
+#![tactic(auto)]
+
 ghost use Rattle.std.specs.Prelude.{◌≡◌, List, ◌∷◌, ◌++◌, ℕ, ◌+◌, ◌-◌, ◌*◌, ◌/◌, ◌%◌, ◌^◌, ◌≤◌, ◌<◌, length, get_or, set, drop, eqb, ltb};
 ghost use Rattle.window.specs.Pack.{Keys};
 ghost use Rattle.window.specs.Packing.{packing};
 ghost use Rattle.window.specs.State.{Held, whole, swapped};
 ghost use Rattle.window.specs.Keys.{keys_of, Window};
 
-#[derive(Drop)]
+#[derive(Clone, Copy)]
 pub struct PackedState {
     pub hi: u64,
     pub lo: u64,
@@ -21,7 +23,7 @@ fn put_key(word: u64, s: u32, old: u64, new: u64) -> u64
 
 // What packing answers: the number of a refusal or 0, and the two halves.
 #[repr(C)]
-#[derive(Drop)]
+#[derive(Clone, Copy)]
 pub struct Packing {
     pub refusal: u32,
     pub lo: u64,
