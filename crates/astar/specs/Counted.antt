@@ -27,7 +27,7 @@ module _ (K : CostAlgebra) (Q : Problem K) (A : Allowance) where
   turn_counted : (s : Search K.C Q.Step) → Counted s → Keeps K Q A Counted s
   turn_counted s h = record { skips = λ e es q. h; records = λ e es n q f at. h; expands = λ e es n q f room left. left }
 
-  pub reach_counted : {s t : Search K.C Q.Step} → Reach K Q A t s → Counted s → Counted t
+  pub reach_counted : {t s : Search K.C Q.Step} → Reach K Q A t s → Counted s → Counted t
   reach_counted (here p) h = subst Counted p h
   reach_counted (next {s} {s'} p r) h = reach_counted r (of_go K Q A Counted s (turn_counted s h) s' p)
 

@@ -52,7 +52,7 @@ module _ (K : CostAlgebra) (Valid : Entry K.C → Type 0) where
     pub go_valid : (A : Allowance) (s t : Search K.C Q.Step) → turn K Q A s ≡ go t → AllValid s.work.queue → AllValid t.work.queue
     go_valid A s t e h = of_go K Q A (λ u. AllValid u.work.queue) s (turn_valid A s h) t e
 
-    pub reach_valid : (A : Allowance) {s t : Search K.C Q.Step} → Reach K Q A t s → AllValid s.work.queue → AllValid t.work.queue
+    pub reach_valid : (A : Allowance) {t s : Search K.C Q.Step} → Reach K Q A t s → AllValid s.work.queue → AllValid t.work.queue
     reach_valid A (here p) h = subst (λ u. AllValid u.work.queue) p h
     reach_valid A (next {s} {s'} p r) h = reach_valid A r (go_valid A s s' p h)
 

@@ -1,6 +1,6 @@
 -- How often each key stands in a list, as a table of 64 numbers.
 use Rattle.std.specs.Prelude.{ℕ, zero, suc, ◌+◌, ◌-◌, ◌*◌, min, ◌≤◌, ◌<◌, ◌≡◌, refl, Bool, true, false, List, [], ◌∷◌, length, get_or, set, drop, replicate, eqb}
-use Rattle.std.proofs.Common.{sym, ◌∙◌, add-one, le_refl, mul-le-mul, drop_of_length-le, length-drop, length-set, get_or-set_same, get_or-set_other, drop-cons}
+use Rattle.std.proofs.Common.{sym, ap, subst, ◌∙◌, add-one, le_refl, mul-le-mul, drop_of_length-le, length-drop, length-set, get_or-set_same, get_or-set_other, drop-cons}
 use native.Mathlib.Omega.{arith}
 use Rattle.std.proofs.lemmas.List.{get_or-replicate, length-replicate}
 use borrow.Author.Tests.{eq-eqb, ne_eqb, eqb-true, eqb-false, lt-ltb, le-ltb}
@@ -36,7 +36,9 @@ count_more table xs x l c =
     go k m true e =
         let q : k ≡ x = eqb-true k x e in
         let h : x < length table = omega (arith, c.size) in
-        rw (q, get_or-set_same table x (get_or table x 0 + 1) 0 h, c.at x l) (sym (count_of_same x xs))
+        let s : get_or (set table x (get_or table x 0 + 1)) x 0 ≡ count_of x (x ∷ xs) =
+        get_or-set_same table x (get_or table x 0 + 1) 0 h ∙ ap (λ n. n + 1) (c.at x l) ∙ sym (count_of_same x xs) in
+        subst (λ j. get_or (set table x (get_or table x 0 + 1)) j 0 ≡ count_of j (x ∷ xs)) (sym q) s
     go k m false e =
         let q : k ≡ x → ⊥ = eqb-false k x e in
         rw (get_or-set_other table x k (get_or table x 0 + 1) 0 q, c.at k m) (sym (count_of_other k x xs (λ p. q (sym p))))

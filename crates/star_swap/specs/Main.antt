@@ -153,6 +153,6 @@ star_reaches (x ∷ cur) (y ∷ goal) h =
     (λ k q. absurd (omega arith))
     (λ j q. h.keys j (omega (arith, m.high j (omega (arith, q, total itself j))))) in
     let at_each : (i : ℕ) → at (run (run w W) (circuits g c 64 0 R')) i ≡ at (y ∷ goal) i =
-    λ i. elim i [ zero ↦ z.1 ∙ r.top | suc j ↦ z.2 (suc j) (omega arith) ] in
+    λ i. elim i as (λ k. at (run (run w W) (circuits g c 64 0 R')) k ≡ at (y ∷ goal) k) [ zero ↦ z.1 ∙ r.top | suc j ↦ z.2 (suc j) (omega arith) ] in
     rw (run_append W (circuits g c 64 0 R') w)
     (ext_get_or 0 (run (run w W) (circuits g c 64 0 R')) (y ∷ goal) (z.0 ∙ ap suc l) (λ i q. at_each i))

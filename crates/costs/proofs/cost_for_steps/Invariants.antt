@@ -1,0 +1,15 @@
+-- The sum so far and what is left to add decide: the loop's invariant.
+use Rattle.std.proofs.Common.{rules, sym, ap, arith}
+use Prim.Native.Nat.{◌≤◌, ◌-◌, ◌+◌}
+use Rattle.std.proofs.Math.Path.{◌≡◌, ◌∙◌}
+use Rattle.std.specs.Prelude.{length, drop}
+use Rattle.std.proofs.Math.ListN.{drop_of_length-le}
+use Rattle.costs.specs.Price.{cost_for_steps, cost_from}
+use Rattle.costs.specs.Laws.{cost_from_turn}
+use Rattle.costs.proofs.cost_for_steps.Given as goal
+
+abbrev pub invariant-loop-i : goal.invariant-loop-i
+invariant-loop-i l = (l.i ≤ length l.steps) × (cost_for_steps l.prices l.steps ≡ cost_from l.prices l.sum (drop l.i l.steps))
+
+abbrev pub decreases-loop-i : goal.decreases-loop-i
+decreases-loop-i l = length l.steps - l.i
