@@ -1,0 +1,15 @@
+
+use Rattle.std.proofs.Common.{rules}
+use Prim.Native.Nat.{◌-◌}
+use Rattle.desk_text.specs.Tables.{Filled, fill_start, fill_more, fill_end, desk_kind, desk_kinds}
+use Rattle.desk_text.proofs.tables.kinds.Goals as goal
+
+pub loop-i-init : goal.loop-i-init
+loop-i-init c = search (rules, fill_start)
+
+pub loop-i-preserved : goal.loop-i-preserved
+loop-i-preserved c = search (rules, fill_more)
+
+pub returns : goal.returns
+unfolding desk_kinds
+returns c = search (rules, fill_end)

@@ -1,0 +1,16 @@
+
+use Rattle.std.proofs.Common.{arith, rules}
+use Rattle.moves.specs.Told.{push_leads}
+use Rattle.moves.proofs.by_push.Reads as reads
+use Rattle.moves.proofs.by_push.Lts as lts
+use Rattle.heuristic.proofs.after_push.Reads as after-push-reads
+use Rattle.moves.proofs.form.Reads as form-reads
+use Rattle.window.proofs.PackedState.push.Reads as push-reads
+use Rattle.moves.proofs.by_push.Goals as goal
+
+pub after_push-gas-requires : goal.after_push-gas-requires
+after_push-gas-requires c = let p = c.requires.3.1.1 in
+    (c.requires.0, (_, (_, p.standing, omega (arith, p.short, c.requires.1))))
+
+pub returns : goal.returns
+returns c = λ goal dup_max p. push_leads _ _ _ _ _ _ goal dup_max p _ _ _ _ _ _ c.requires.1 c.after_push-gas.ensures c.push.ensures c.form.ensures

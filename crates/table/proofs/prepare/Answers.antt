@@ -1,0 +1,23 @@
+
+use Rattle.heuristic.specs.Counts.{count_none}
+use Rattle.std.proofs.Common.{arith, rules}
+use Rattle.table.proofs.Laws.{goal_fit, all_prepared}
+use Rattle.heuristic.proofs.count_list.Reads as count-list-reads
+use Rattle.heuristic.proofs.least_dup.Reads as least-dup-reads
+use Rattle.successors.proofs.distinct_keys.Reads as distinct-keys-reads
+use Rattle.table.proofs.put.Reads as put_reads
+use Rattle.table.proofs.put_keys.Reads as put-keys-reads
+use Rattle.table.proofs.prepare.Goals as goal
+
+pub count_list-requires : goal.count_list-requires
+count_list-requires c = (goal_fit _ _ _ _ c.requires.accepted, omega (arith, c.requires.accepted.bounds.goal), count_none)
+
+pub put_keys-k-requires : goal.put_keys-k-requires
+put_keys-k-requires c =
+    omega (arith, c.requires.table_len, c.put.ensures.long, c.put-2.ensures.long, c.put-3.ensures.long, c.requires.accepted.bounds.goal)
+
+pub returns : goal.returns
+returns c =
+    all_prepared _ _ _ _ c.requires.accepted _ _ _ _ _ _ _ _ _ c.put.ensures c.put-2.ensures c.put-3.ensures
+    c.put_keys-k.ensures.put c.requires.table_len c.put_keys-k.ensures.upper_bound c.count_list.ensures
+    c.distinct_keys-distinct.ensures c.least_dup-dup.ensures.value_2

@@ -1,0 +1,11 @@
+
+use Prim.Native.Nat.{◌-◌}
+use Rattle.table.proofs.Laws.{Putting, put_first, put_next, put_place, put_end}
+use Rattle.std.proofs.Common.{rules}
+use Rattle.table.proofs.put.Given as goal
+
+abbrev pub invariant-loop-i : goal.invariant-loop-i
+invariant-loop-i l = Putting l.initial.table l.table l.at l.from l.n l.i
+
+abbrev pub decreases-loop-i : goal.decreases-loop-i
+decreases-loop-i l = l.n - l.i
