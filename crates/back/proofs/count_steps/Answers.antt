@@ -1,4 +1,3 @@
-
 use Rattle.lists.specs.View.{nodes_of}
 use Rattle.back.proofs.Steps.{Counting, counting_first, counted_here, counted_out, counted_missing, counted_none, counted_on}
 use Rattle.std.proofs.Common.{rules}

@@ -1,4 +1,3 @@
-
 use Rattle.lists.specs.View.{nodes_of}
 use Rattle.back.proofs.Steps.{Writing, writing_first, written_all, never_missing, never_none, some_left, fewer, place_left, written_on}
 use Rattle.std.proofs.Common.{rules}

@@ -15,8 +15,9 @@ pub loop-i-preserved : goal.loop-i-preserved
 loop-i-preserved c =
     let a = c.args in
     elim c.if-limit-list.branch [
-      then-limit-list w ↦ (omega arith, omega arith, rw w.n-is (over_seen a.limit a.list.now c.loop-i.n c.loop-i.i c.loop-i.invariant.2 c.loop-i-test.true w.if-limit-list.true))
-    | else-limit-list w ↦ (omega arith, omega arith, rw w.n-is (over_next a.limit a.list.now c.loop-i.n c.loop-i.i c.loop-i.invariant.2 c.loop-i-test.true w.if-limit-list.false)) ]
+      | then-limit-list w ↦ (omega arith, omega arith, rw w.n-is (over_seen a.limit a.list.now c.loop-i.n c.loop-i.i c.loop-i.invariant.2 c.loop-i-test.true w.if-limit-list.true))
+      | else-limit-list w ↦ (omega arith, omega arith, rw w.n-is (over_next a.limit a.list.now c.loop-i.n c.loop-i.i c.loop-i.invariant.2 c.loop-i-test.true w.if-limit-list.false))
+    ]
 
 pub returns : goal.returns
 returns c =

@@ -15,8 +15,9 @@ pub loop-i-preserved : goal.loop-i-preserved
 loop-i-preserved c =
     let t = count_of_turn c.args.k c.args.list.now c.loop-i.i c.loop-i-test.true in
     elim c.if-list-i.branch [
-      then-list-i w ↦ omega (arith, w.n-is, rw (eq-eqb _ _ w.if-list-i.true) at t)
-    | else-list-i w ↦ omega (arith, w.n-is, rw (ne_eqb _ _ w.if-list-i.false) at t) ]
+      | then-list-i w ↦ omega (arith, w.n-is, rw (eq-eqb _ _ w.if-list-i.true) at t)
+      | else-list-i w ↦ omega (arith, w.n-is, rw (ne_eqb _ _ w.if-list-i.false) at t)
+    ]
 
 pub returns : goal.returns
 returns c =

@@ -1,4 +1,3 @@
-
 use Rattle.std.proofs.Common.{rules}
 use Rattle.desk_text.specs.Feeding.{new_sound}
 use Rattle.desk_answer.specs.Desk.{answer_whole}

@@ -1,4 +1,3 @@
-
 use Rattle.std.proofs.Common.{rules}
 use Rattle.desk_answer.specs.Desk.{plan_length, plan_count, ask_said}
 use Rattle.desk_answer.proofs.ask.Goals as goal

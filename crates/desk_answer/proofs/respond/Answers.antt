@@ -1,4 +1,3 @@
-
 use Rattle.std.proofs.Common.{rules}
 use Rattle.desk_answer.specs.Desk.{respond_none, start_fits, goal_fits, start_is, goal_is, respond_asked}
 use Rattle.desk_answer.proofs.respond.Goals as goal

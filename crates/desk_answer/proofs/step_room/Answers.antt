@@ -1,4 +1,3 @@
-
 use Rattle.std.specs.Prelude.{refl}
 use Rattle.desk_answer.specs.Desk.{zeros}
 use Rattle.desk_answer.proofs.step_room.Goals as goal

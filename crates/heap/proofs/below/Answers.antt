@@ -1,4 +1,3 @@
-
 use Rattle.heap.proofs.Order.{at_f, at_g, at_h, at_l}
 use Rattle.std.proofs.Common.{rules}
 use Rattle.heap.proofs.below.Goals as goal

@@ -1,4 +1,3 @@
-
 use Rattle.std.proofs.Common.{arith, rules}
 use Prim.Native.Nat.{◌-◌}
 use Rattle.heap.proofs.Sift.{Falls, falls_first, falls_step, falls_done, falls_end, falls_sorted}
@@ -16,12 +15,12 @@ loop-i-preserved c = search falls_step
 
 pub returns-else-less : goal.returns-else-less
 returns-else-less c = record {
-      heap = search falls_done;
-      len_after = search falls_sorted;
-    }
+  heap = search falls_done;
+  len_after = search falls_sorted;
+}
 
 pub returns : goal.returns
 returns c = record {
-      heap = search falls_end;
-      len_after = search falls_sorted;
-    }
+  heap = search falls_end;
+  len_after = search falls_sorted;
+}

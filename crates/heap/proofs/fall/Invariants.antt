@@ -1,4 +1,3 @@
-
 use Rattle.std.proofs.Common.{arith, rules}
 use Prim.Native.Nat.{◌-◌}
 use Rattle.heap.proofs.Sift.{Falls, falls_first, falls_step, falls_done, falls_end, falls_sorted}

@@ -1,4 +1,3 @@
-
 use Rattle.heap.proofs.Order.{Narrow, by_f, by_g, by_h, by_l}
 use Rattle.std.proofs.Common.{arith, rules}
 use Rattle.heap.proofs.less.Goals as goal

@@ -1,4 +1,3 @@
-
 use Rattle.std.proofs.Common.{arith, rules}
 use Rattle.heap.proofs.Sift.{lesser_left, lesser_right, lesser_alone}
 use Rattle.heap.proofs.below.Reads as below-reads

@@ -1,4 +1,3 @@
-
 use Rattle.std.proofs.Common.{arith, rules}
 use Prim.Native.Nat.{◌-◌}
 use Rattle.heap.proofs.Sift.{Rises, rises_first, rises_step, rises_done, rises_top, rises_sorted}
@@ -15,12 +14,12 @@ loop-i-preserved c = search rises_step
 
 pub returns-else-less : goal.returns-else-less
 returns-else-less c = record {
-      heap_2 = search rises_done;
-      len_after = search rises_sorted;
-    }
+  heap_2 = search rises_done;
+  len_after = search rises_sorted;
+}
 
 pub returns : goal.returns
 returns c = record {
-      heap_2 = search rises_top;
-      len_after = search rises_sorted;
-    }
+  heap_2 = search rises_top;
+  len_after = search rises_sorted;
+}

@@ -1,4 +1,3 @@
-
 use Rattle.std.proofs.Common.{arith, rules}
 use Prim.Native.Nat.{◌-◌}
 use Rattle.heap.proofs.Sift.{Rises, rises_first, rises_step, rises_done, rises_top, rises_sorted}

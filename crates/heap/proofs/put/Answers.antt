@@ -1,4 +1,3 @@
-
 use Rattle.std.proofs.Common.{arith, length-set, rules}
 use Rattle.heap.proofs.put.Goals as goal
 

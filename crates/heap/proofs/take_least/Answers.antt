@@ -1,4 +1,3 @@
-
 use Rattle.std.specs.Prelude.{refl}
 use Rattle.heap.specs.Heap.{placed}
 use Rattle.heap.proofs.Order.{decode_key}
@@ -10,10 +9,10 @@ use Rattle.heap.proofs.take_least.Goals as goal
 
 pub fall-requires : goal.fall-requires
 fall-requires c = record {
-      below_root = root_placed _ _ _ _ c.requires.heap c.requires.len_nonzero refl;
-      len_in_bounds = omega arith;
-      in_bounds = omega arith;
-    }
+  below_root = root_placed _ _ _ _ c.requires.heap c.requires.len_nonzero refl;
+  len_in_bounds = omega arith;
+  in_bounds = omega arith;
+}
 
 pub returns : goal.returns
 returns c =

@@ -1,4 +1,3 @@
-
 use Rattle.heuristic.specs.Steady.{some_there, popping, popped_by}
 use Rattle.std.proofs.Common.{arith, rules}
 use Rattle.heuristic.proofs.at.Reads as at_reads

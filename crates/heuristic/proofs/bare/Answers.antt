@@ -1,4 +1,3 @@
-
 use Rattle.heuristic.specs.Bare.{bare_term, over_keys, over_begin, over_on, over_end}
 use Rattle.std.specs.Prelude.{length, drop, refl}
 use Prim.Native.Nat.{ℕ, ◌≤◌, ◌<◌, ◌-◌}

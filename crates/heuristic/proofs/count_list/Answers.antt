@@ -1,4 +1,3 @@
-
 use Rattle.heuristic.specs.Counts.{Counted, count_on, count_end, count_start, count_small}
 use Rattle.std.specs.Prelude.{length, drop, refl}
 use Rattle.std.proofs.Math.ListN.{get_or}

@@ -1,4 +1,3 @@
-
 use Rattle.heuristic.specs.Counts.{term_by, count_enough}
 use Rattle.std.proofs.Common.{rules}
 use Rattle.heuristic.proofs.at.Reads as at_reads

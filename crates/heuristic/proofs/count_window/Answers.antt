@@ -1,4 +1,3 @@
-
 use Rattle.window.specs.State.{Held}
 use Rattle.window.specs.Laws.{key_lt}
 use Rattle.window.specs.Keys.{keys_of, keys_length}

@@ -1,4 +1,3 @@
-
 use Rattle.costs.specs.declared.Cost.{Cost}
 use Rattle.std.proofs.Common.{ap, rules}
 use Rattle.heuristic.specs.Heuristic.{gas_of}

@@ -1,4 +1,3 @@
-
 use Rattle.heuristic.specs.Counts.{term_surplus, term_enough, term_first, term_missing}
 use Rattle.std.proofs.Common.{rules}
 use Rattle.costs.proofs.saturating_add.Reads as saturating-add-reads

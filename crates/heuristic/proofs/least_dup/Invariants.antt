@@ -1,4 +1,3 @@
-
 use Rattle.heuristic.specs.LeastDup.{gas_in_hand, none_taken, last_taken, all_taken}
 use Prim.Native.Nat.{ℕ, ◌≤◌, ◌-◌}
 use Rattle.std.proofs.Common.{arith, sym, rules}

@@ -1,4 +1,3 @@
-
 use Rattle.heuristic.specs.Steady.{term_pop, term_mat, term_per}
 use Rattle.std.proofs.Common.{arith, rules}
 use Rattle.heuristic.proofs.at.Reads as at_reads

@@ -1,4 +1,3 @@
-
 use Rattle.std.proofs.Common.{arith, rules}
 use Rattle.heuristic.specs.Counts.{product_fits}
 use Rattle.heuristic.proofs.saturating_mul.Goals as goal

@@ -1,4 +1,3 @@
-
 use Rattle.heuristic.specs.LeastDup.{next_taken, least_taken}
 use Rattle.std.proofs.Common.{arith, rules}
 use Rattle.heuristic.proofs.gas_of.Reads as gas-of-reads

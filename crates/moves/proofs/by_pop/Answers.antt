@@ -1,4 +1,3 @@
-
 use Rattle.moves.specs.Told.{pop_leads, standing_top, held_top}
 use Rattle.window.specs.Keys.{keys_of}
 use Rattle.replay.specs.Machine.{after}

@@ -1,4 +1,3 @@
-
 use Rattle.std.proofs.Common.{arith, rules}
 use Rattle.moves.specs.Told.{push_leads}
 use Rattle.moves.proofs.by_push.Reads as reads

@@ -1,4 +1,3 @@
-
 use Rattle.std.proofs.Common.{arith, rules}
 use Rattle.std.specs.Prelude.{refl}
 use Rattle.window.specs.Keys.{keys_of, keys_length}

@@ -1,4 +1,3 @@
-
 use Rattle.std.specs.Prelude.{refl}
 use Rattle.std.proofs.Math.Path.{◌∙◌}
 use Rattle.std.proofs.Common.{rules}

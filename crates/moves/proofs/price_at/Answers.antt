@@ -1,4 +1,3 @@
-
 use Rattle.std.proofs.Math.ListN.{get_or-eq_default}
 use Rattle.std.proofs.Common.{sym, rules}
 use Rattle.moves.proofs.price_at.Reads as reads

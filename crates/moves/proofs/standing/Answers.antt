@@ -1,4 +1,3 @@
-
 use Rattle.moves.specs.Told.{asking_fit, asking_bare, parent_is}
 use Rattle.std.proofs.Common.{rules}
 use Rattle.moves.proofs.standing.Reads as reads

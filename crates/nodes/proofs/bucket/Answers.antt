@@ -1,4 +1,3 @@
-
 use Rattle.std.proofs.Common.{arith, mod-lt, rules}
 use Rattle.nodes.proofs.Lemmas.{scaled_fits}
 use Rattle.nodes.specs.Nodes.{bucket_of}

@@ -1,4 +1,3 @@
-
 use Rattle.std.proofs.Common.{arith, rules}
 use Rattle.nodes.proofs.Lemmas.{Walk, walk_start, walk_next, walk_found, walk_none}
 use Rattle.nodes.proofs.find.Reads as reads

@@ -1,4 +1,3 @@
-
 use Rattle.std.proofs.Common.{arith, rules}
 use Rattle.nodes.proofs.Lemmas.{bucket_below}
 use Rattle.nodes.proofs.head.Reads as reads

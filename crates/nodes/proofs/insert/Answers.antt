@@ -1,4 +1,3 @@
-
 use Rattle.nodes.proofs.Lemmas.{bucket_below, wrote, inserted_chained}
 use Rattle.std.proofs.Common.{rules}
 use Rattle.nodes.proofs.insert.Reads as reads

@@ -1,4 +1,3 @@
-
 use Rattle.std.proofs.Common.{arith, length-set, rules}
 use Rattle.nodes.proofs.put.Reads as reads
 use Rattle.nodes.proofs.put.Lts as lts

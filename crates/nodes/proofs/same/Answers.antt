@@ -1,4 +1,3 @@
-
 use Rattle.nodes.proofs.Lemmas.{both_left}
 use borrow.Author.Tests.{eq-eqb, ne_eqb}
 use Rattle.std.proofs.Common.{rules}

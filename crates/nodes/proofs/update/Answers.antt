@@ -1,4 +1,3 @@
-
 use Rattle.nodes.proofs.Lemmas.{wrote_below, updated_chained}
 use Rattle.std.proofs.Common.{rules}
 use Rattle.nodes.proofs.update.Reads as reads

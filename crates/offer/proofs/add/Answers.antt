@@ -1,4 +1,3 @@
-
 use Rattle.offer.proofs.Laws.{summed}
 use Rattle.std.proofs.Common.{rules}
 use Rattle.costs.proofs.Cost.packed.Reads as packed-reads

@@ -1,4 +1,3 @@
-
 use Rattle.offer.proofs.Offering.{all_inside, sought_node, admitted, not_admitted}
 use Rattle.std.proofs.Common.{rules}
 use Rattle.lists.proofs.find.Reads as find-reads
@@ -12,10 +11,10 @@ cheaper-requires c = search all_inside
 
 pub store-more-requires : goal.store-more-requires
 store-more-requires c = record {
-      kept = search rules;
-      n_in_bounds = search rules;
-      sought = search sought_node;
-    }
+  kept = search rules;
+  n_in_bounds = search rules;
+  sought = search sought_node;
+}
 
 pub returns-then-cheaper : goal.returns-then-cheaper
 returns-then-cheaper c = search admitted

@@ -1,4 +1,3 @@
-
 use Rattle.offer.proofs.Laws.{better_none, inside_at, better_some}
 use Rattle.std.proofs.Common.{rules}
 use Rattle.nodes.proofs.cost.Reads as cost-reads

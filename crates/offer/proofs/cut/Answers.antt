@@ -1,4 +1,3 @@
-
 use Rattle.offer.proofs.Laws.{cut_have, cut_none}
 use Rattle.std.proofs.Common.{rules}
 use Rattle.offer.proofs.cut.Goals as goal

@@ -1,4 +1,3 @@
-
 use Rattle.offer.proofs.Laws.{goal_kept, goal_better, goal_first}
 use Rattle.std.proofs.Common.{rules}
 use Rattle.offer.proofs.goal_drawn.Goals as goal

@@ -1,4 +1,3 @@
-
 use Rattle.offer.proofs.Offering.{offer_cut, offer_stored, offer_kept}
 use Rattle.std.proofs.Common.{rules}
 use Rattle.lists.proofs.push.Reads as push-reads

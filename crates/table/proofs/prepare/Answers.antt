@@ -1,4 +1,3 @@
-
 use Rattle.heuristic.specs.Counts.{count_none}
 use Rattle.std.proofs.Common.{arith, rules}
 use Rattle.table.proofs.Laws.{goal_fit, all_prepared}

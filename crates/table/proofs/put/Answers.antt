@@ -1,4 +1,3 @@
-
 use Prim.Native.Nat.{◌-◌}
 use Rattle.table.proofs.Laws.{Putting, put_first, put_next, put_place, put_end}
 use Rattle.std.proofs.Common.{rules}

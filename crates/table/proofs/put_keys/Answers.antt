@@ -1,4 +1,3 @@
-
 use Rattle.std.proofs.Math.Path.{◌≡◌}
 use Rattle.std.specs.Prelude.{length}
 use Rattle.std.proofs.Common.{arith, rules}
@@ -9,9 +8,9 @@ use Rattle.table.proofs.put_keys.Goals as goal
 
 pub put-requires : goal.put-requires
 put-requires c = let e : length c.args.distinct.keys ≡ 21 = search rules in record {
-      n_in_bounds = omega (arith, c.at_most_21-n.ensures, c.requires);
-      n_in_bounds_2 = omega (arith, c.at_most_21-n.ensures);
-    }
+  n_in_bounds = omega (arith, c.at_most_21-n.ensures, c.requires);
+  n_in_bounds_2 = omega (arith, c.at_most_21-n.ensures);
+}
 
 pub returns : goal.returns
 returns c =

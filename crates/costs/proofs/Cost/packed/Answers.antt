@@ -1,4 +1,3 @@
-
 use Rattle.std.proofs.Common.{rules, arith}
 use Rattle.costs.specs.Packed.{packed_back}
 use Rattle.costs.proofs.Cost.packed.Goals as goal

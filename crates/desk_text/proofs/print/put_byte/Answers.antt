@@ -1,4 +1,3 @@
-
 use Rattle.std.proofs.Common.{rules}
 use Rattle.desk_text.specs.Put.{put_one}
 use Rattle.desk_text.proofs.print.put_byte.Goals as goal

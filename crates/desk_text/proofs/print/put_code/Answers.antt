@@ -1,4 +1,3 @@
-
 use Rattle.std.proofs.Common.{rules}
 use Rattle.desk_text.specs.Put.{put_nothing, put_known}
 use Rattle.desk_text.proofs.print.put_code.Goals as goal

@@ -1,4 +1,3 @@
-
 use Rattle.std.proofs.Common.{rules}
 use Rattle.desk_text.specs.Put.{put_field}
 use Rattle.desk_text.proofs.print.put_field.Goals as goal

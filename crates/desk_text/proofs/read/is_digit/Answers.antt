@@ -1,4 +1,3 @@
-
 use Rattle.std.proofs.lemmas.Bool.{lt-leb}
 use Rattle.std.proofs.Common.{le-leb}
 use Rattle.desk_text.specs.Grammar.{is_digit}

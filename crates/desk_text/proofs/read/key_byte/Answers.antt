@@ -1,4 +1,3 @@
-
 use Rattle.std.proofs.Common.{rules, lt-ltb, le-ltb}
 use Rattle.desk_text.proofs.read.key_byte.Goals as goal
 

@@ -1,4 +1,3 @@
-
 use Rattle.std.proofs.Common.{rules}
 use Rattle.std.specs.Prelude.{refl}
 use Rattle.desk_text.specs.Feeding.{keys_from}
@@ -6,6 +5,6 @@ use Rattle.desk_text.proofs.read.put_line.Goals as goal
 
 pub returns : goal.returns
 returns c = record {
-      value = refl;
-      keys_after = search keys_from;
-    }
+  value = refl;
+  keys_after = search keys_from;
+}

@@ -1,4 +1,3 @@
-
 use Rattle.std.proofs.Common.{rules}
 use Rattle.desk_text.specs.Feeding.{new_sound, read_whole}
 use Rattle.desk_text.proofs.read.read.Goals as goal

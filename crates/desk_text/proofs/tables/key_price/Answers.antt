@@ -1,4 +1,3 @@
-
 use borrow.Author.Tests.{eq-eqb, ne_eqb}
 use Rattle.desk_text.specs.Tables.{key_price}
 use Rattle.desk_text.proofs.tables.key_price.Goals as goal

@@ -1,4 +1,3 @@
-
 use borrow.Author.Tests.{lt-ltb, le-ltb, eq-eqb, ne_eqb}
 use Rattle.desk_text.specs.Tables.{desk_kind}
 use Rattle.desk_text.proofs.tables.kind_of.Goals as goal

@@ -1,4 +1,3 @@
-
 use Rattle.std.proofs.Common.{rules}
 use Prim.Native.Nat.{◌-◌}
 use Rattle.desk_text.specs.Tables.{Filled, fill_start, fill_more, fill_end, desk_price, desk_prices}

@@ -1,4 +1,3 @@
-
 use Rattle.std.proofs.Common.{rules}
 use Rattle.desk_text.specs.Feeding.{digit_strange, digit_large, digit_more, digit_from, digit_to}
 use Rattle.desk_text.proofs.read.Reader.digit_fed.Goals as goal

@@ -1,4 +1,3 @@
-
 use Rattle.std.proofs.Common.{rules}
 use Rattle.desk_text.specs.Feeding.{ended_places, start_from, goal_from, start_fits, goal_fits, finish_asked, finish_none}
 use Rattle.desk_text.proofs.read.Reader.finish.Goals as goal

@@ -1,4 +1,3 @@
-
 use Rattle.std.proofs.Common.{rules}
 use Rattle.desk_text.specs.Feeding.{zero_not, zero_is}
 use Rattle.desk_text.proofs.read.Reader.is_at_zero.Goals as goal

@@ -1,4 +1,3 @@
-
 use Rattle.std.proofs.Common.{rules}
 use Rattle.desk_text.specs.Feeding.{closed_first, closed_short, closed_second, closed_third, closed_past}
 use Rattle.desk_text.specs.Machine.{first_closed, second_closed, third_closed}

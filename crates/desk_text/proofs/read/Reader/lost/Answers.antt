@@ -1,4 +1,3 @@
-
 use Rattle.std.specs.Prelude.{refl}
 use Rattle.desk_text.specs.Machine.{lost}
 use Rattle.desk_text.proofs.read.Reader.lost.Goals as goal

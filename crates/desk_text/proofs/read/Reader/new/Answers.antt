@@ -1,4 +1,3 @@
-
 use Rattle.desk_text.specs.Machine.{fresh}
 use Rattle.std.specs.Prelude.{refl}
 use Rattle.desk_text.proofs.read.Reader.new.Goals as goal

@@ -1,0 +1,6 @@
+-- Found, with the length as the highest window, and zeros.
+use Rattle.std.proofs.Common.{rules}
+use Rattle.planner.proofs.Answer.no_steps.Goals as goal
+
+pub returns : goal.returns
+returns c = c.bare.ensures

@@ -1,0 +1,7 @@
+use Rattle.std.proofs.Common.{rules}
+use Rattle.planner.specs.Refusal.{short_lists}
+use Rattle.planner.proofs.short_lists.Goals as goal
+
+pub returns : goal.returns
+unfolding short_lists
+returns c = cc

@@ -1,0 +1,6 @@
+use Prim.Native.Nat.{◌-◌}
+use Rattle.std.proofs.Common.{arith, rules}
+use Rattle.successors.proofs.place_at.Goals as goal
+
+pub overflow_cast-result : goal.overflow_cast-result
+overflow_cast-result c = omega (arith, c.type_inv.table c.args.key)

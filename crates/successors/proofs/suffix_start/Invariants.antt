@@ -1,0 +1,14 @@
+use Rattle.std.proofs.Common.{arith, rules}
+use Prim.Native.Nat.{◌+◌, ◌-◌, ◌≤◌, ◌<◌, min}
+use Rattle.std.specs.Prelude.{reverse, length, drop}
+use Rattle.std.proofs.Math.Path.{◌≡◌}
+use Rattle.successors.specs.Successors.{common}
+use Rattle.successors.specs.Suffix.{common_differs, common_same, common_stops}
+use Rattle.successors.proofs.least.Reads as least-reads
+use Rattle.successors.proofs.suffix_start.Given as goal
+
+abbrev pub invariant-loop-k : goal.invariant-loop-k
+invariant-loop-k l = (l.k ≤ l.limit) × (common (reverse l.w) (reverse l.goal) ≡ l.k + common (drop l.k (reverse l.w)) (drop l.k (reverse l.goal)))
+
+abbrev pub decreases-loop-k : goal.decreases-loop-k
+decreases-loop-k l = l.limit - l.k

@@ -1,0 +1,30 @@
+use Rattle.std.specs.Prelude.{length, refl}
+use Rattle.std.proofs.Math.ListN.{get_or}
+use Prim.Native.Nat.{ℕ, ◌≤◌, ◌-◌}
+use Rattle.std.proofs.Common.{arith, rules}
+use Rattle.successors.specs.Parts.{up_to}
+use Rattle.successors.specs.Successors.{other_at}
+use Rattle.successors.specs.Listed.{steps, Added, added_start, added_each, loop_added, loop_room, each_roomy}
+use Rattle.successors.proofs.offered.Reads as offered-reads
+use Rattle.successors.proofs.other_test.Reads as other-test-reads
+use Rattle.successors.proofs.with_others.Goals as goal
+
+pub loop-i-init : goal.loop-i-init
+loop-i-init c = (omega arith, added_start _ _)
+
+pub other_test-test-requires : goal.other_test-test-requires
+other_test-test-requires c = (c.requires.1, c.requires.0.kinds, c.requires.2, c.requires.0.keys c.loop-i.i c.loop-i-test.true, c.requires.3)
+
+pub offered-n-requires : goal.offered-n-requires
+offered-n-requires c = let l = c.loop-i in
+    loop_room _ _ _ _ (λ i. other_at c.args.kinds.now c.args.prices.now c.args.w.now c.args.reach (get_or c.args.keys.now i 0)) l.i (length c.args.keys.now) _ _ _ c.other_test-test.ensures refl l.invariant.1 c.loop-i-test.true (each_roomy _ _ _ _ c.requires.4)
+
+pub loop-i-preserved : goal.loop-i-preserved
+loop-i-preserved c = let l = c.loop-i in
+    (omega arith, loop_added _ _ _ (λ i. other_at c.args.kinds.now c.args.prices.now c.args.w.now c.args.reach (get_or c.args.keys.now i 0)) l.i _ _ _ c.other_test-test.ensures refl l.invariant.1 c.offered-n.ensures)
+
+pub shape_of-out : goal.shape_of-out
+shape_of-out c = c.loop-i.invariant.1.size
+
+pub returns : goal.returns
+returns c = added_each _ _ _ _ _ c.loop-i.invariant.0 c.loop-i-test.false c.loop-i.invariant.1
