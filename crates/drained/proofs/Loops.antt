@@ -1,8 +1,8 @@
 -- The two loops keep one queue in the face and in the heap.
-use mathlib.Core.Path.{◌≡◌, refl, sym, ap, subst, ◌∙◌}
-use mathlib.Core.Bool.{Bool, true, false, not}
+use mathlib.Core.Path.{◌≡◌, refl, sym, subst, ◌∙◌}
+use mathlib.Core.Bool.{Bool, true, false}
 use mathlib.Core.List.{List}
-use Prim.Native.Nat.{ℕ, ◌+◌, ◌-◌, ◌*◌, ◌<◌, ◌≤◌}
+use Prim.Native.Nat.{ℕ, ◌+◌, ◌-◌, ◌<◌, ◌≤◌}
 use native.Mathlib.Omega.{arith}
 use lib.ListN.{length}
 use Rattle.costs.specs.Packed.{cost_of}
@@ -52,5 +52,5 @@ numbers_are e f g p q = λ i. record { f = p i; g = q i; state = whole e.state }
 pub no_empty : (xs₀ xs : List ℕ) (s u : List Entry) (n : ℕ) (r : Least) → Draining xs₀ xs s n → 0 < n → Taken s u n r → r ≡ Empty → false ≡ true
 no_empty xs₀ xs s u n r d l t is = absurd (never_empty s xs n d.agree l u (subst (Taken s u n) is t))
 
-pub no_other : (xs₀ xs ys : List ℕ) (s t u : List Entry) (n : ℕ) (r : Least) (e : Entry) (h : Numbers) (b : Bool) → Draining xs₀ xs s n → 0 < n → Taken s u n r → r ≡ Is e → Taken s t n (first s n) → HeapTaken xs n h ys (n - 1) → (entry_of e ≡ waits h → b ≡ true) → not b ≡ true → false ≡ true
-no_other xs₀ xs ys s t u n r e h b d l p is q w same differs = sym (ap not (same (heads_agree s t xs ys n h d.agree l e u (subst (Taken s u n) is p) q w))) ∙ differs
+pub no_other : (xs₀ xs ys : List ℕ) (s t u : List Entry) (n : ℕ) (r : Least) (e : Entry) (h : Numbers) (b : Bool) → Draining xs₀ xs s n → 0 < n → Taken s u n r → r ≡ Is e → Taken s t n (first s n) → HeapTaken xs n h ys (n - 1) → (entry_of e ≡ waits h → b ≡ true) → b ≡ false → false ≡ true
+no_other xs₀ xs ys s t u n r e h b d l p is q w same differs = sym differs ∙ same (heads_agree s t xs ys n h d.agree l e u (subst (Taken s u n) is p) q w)

@@ -1,7 +1,6 @@
 -- The face and the heap hold the same queue, and the same of both keeps it so: each promises the search's push, and its head and rest.
-use Rattle.std.specs.Prelude.{◌≡◌, refl, Bool, true, false, cond, ◌&&◌, List, [], ◌∷◌, ℕ, ◌+◌, ◌-◌, ◌<◌, ◌≤◌, ltb, leb, length, set}
+use Rattle.std.specs.Prelude.{◌≡◌, refl, Bool, true, cond, List, ◌∷◌, ℕ, ◌+◌, ◌-◌, ◌<◌, ◌≤◌, length, set}
 use Rattle.std.proofs.Common.{sym, ap, ◌∙◌, arith, not-suc-le-zero, lt-ltb, le-leb, length-set}
-use Rattle.std.proofs.Math.Option.{Option, none, some}
 use Rattle.costs.specs.declared.Cost.{Cost}
 use Rattle.astar.specs.Search.{Entry as Waiting, push}
 use Rattle.algebra.specs.GasBytes.{gas_bytes}
@@ -11,7 +10,6 @@ use Rattle.heap.specs.Heap.{sort}
 use Rattle.lists.specs.View.{waits, queue_of, Piled, Pushed as HeapPushed, Taken as HeapTaken}
 use Rattle.face.specs.Open.{entry_of, queue_in, free, held, least_of, without, first, Pushed, Taken}
 use Rattle.face.specs.declared.Entry.{Entry}
-use Rattle.face.specs.declared.Least.{Least}
 use Rattle.face.specs.declared.Least.TheVariants.{Is, Empty}
 
 -- n entries in 64 places and in the heap, and one queue of both

@@ -8,7 +8,7 @@ ghost use Rattle.drained.specs.Agree.{Agree};
 
 use costs::Cost;
 use face::{Entry, Least};
-use libc::STDOUT_FILENO;
+use std::io;
 use window::PackedState;
 
 // An entry by the digits of a number: f's gas and bytes, g's gas and bytes, the halves of the state.
@@ -126,12 +126,12 @@ fn same_order(start: [Entry; 64], list: &mut [u64]) -> bool
     true
 }
 
-fn main() {
+fn main(rt: HostRuntime) -> io::Result<()> {
     let mut list = [0u64; 160];
     let open = fill(&mut list);
     if same_order(open, &mut list) {
-        io::write_all(STDOUT_FILENO, b"40 entries, the same order\n");
+        println!(rt; "40 entries, the same order")
     } else {
-        io::write_all(STDOUT_FILENO, b"another order\n");
+        println!(rt; "another order")
     }
 }

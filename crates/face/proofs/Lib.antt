@@ -1,4 +1,2 @@
 pub mod Order
-pub mod Again
-pub mod Steps
-pub mod Lent
+pub mod Head

@@ -1,12 +1,12 @@
 -- The tests of the code are the order of the search.
-use mathlib.Core.Path.{◌≡◌, refl, sym, ap, ap₂, ◌∙◌}
-use mathlib.Core.Bool.{Bool, true, false, cond, ◌&&◌}
+use mathlib.Core.Path.{◌≡◌, sym, ◌∙◌}
+use mathlib.Core.Bool.{Bool, true, false, ◌&&◌}
 use Prim.Native.Nat.{ℕ, ◌<◌, ◌≤◌}
 use lib.Dec.{ltb, leb}
 use borrow.Author.Tests.{lt-ltb, le-ltb, lt-leb, le-leb, ltb-true, ltb-false}
 use Rattle.costs.specs.Cost.{no_more}
 use Rattle.window.specs.State.{whole}
-use Rattle.algebra.specs.GasBytes.{gas_bytes, le_is}
+use Rattle.algebra.specs.GasBytes.{le_is}
 use Rattle.astar.specs.Cost.{lex}
 use Rattle.astar.specs.Search.{before}
 use Rattle.face.specs.Open.{no_later, lesser_at}

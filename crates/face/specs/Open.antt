@@ -1,8 +1,7 @@
 -- The open list as a slice of entries, in the definitions of the search's open list (document 01, "Forms the Rust cannot keep": "then one thin").
-use Rattle.std.specs.Prelude.{◌≡◌, Bool, true, false, cond, ◌&&◌, List, [], ◌∷◌, map, ℕ, zero as zeroN, suc, ◌+◌, ◌-◌, ◌<◌, ltb, leb, length, get_or, set, take}
+use Rattle.std.specs.Prelude.{◌≡◌, Bool, true, cond, ◌&&◌, List, [], ◌∷◌, map, ℕ, zero as zeroN, suc, ◌+◌, ◌-◌, ltb, leb, length, get_or, set, take}
 use Rattle.std.proofs.Math.Option.{Option, none, some}
 use Rattle.costs.specs.declared.Cost.{Cost}
-use Rattle.window.specs.declared.PackedState.{PackedState}
 use Rattle.window.specs.State.{whole}
 use Rattle.algebra.specs.GasBytes.{gas_bytes}
 use Rattle.astar.specs.Search.{Entry as Waiting, before, push}
