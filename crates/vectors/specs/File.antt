@@ -106,3 +106,7 @@ pub record Reading (size n at records wrong : ℕ) : Type 0 where
   pub place : at ≤ size
   pub many : n < 4294967296
   pub differ : wrong ≤ records
+
+-- A list has so many first entries, and they are so many. The second part follows from the first, and spares a caller's `&xs[..n]` a proof.
+abbrev pub IsPrefixLen : ℕ → List ℕ → Type 0
+IsPrefixLen n xs = (n ≤ length xs) × (n ≡ length (take n xs))

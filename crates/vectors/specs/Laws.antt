@@ -1,6 +1,6 @@
 -- Laws of what the reader goes through place by place.
-use Rattle.std.specs.Prelude.{◌≡◌, ℕ, zero, suc, ◌+◌, ◌<◌, List, length, ◌≢◌, slice_index, slice_set, refl}
-use Rattle.std.proofs.Common.{sym, ◌∙◌, ⊎_elim, arith, below_more, get_or-set_same, get_or-set_other, eq-eqb, ne_eqb}
+use Rattle.std.specs.Prelude.{◌≡◌, ℕ, suc, ◌+◌, ◌<◌, List, length, ◌≢◌, slice_index, slice_set, refl}
+use Rattle.std.proofs.Common.{◌∙◌, arith, below_more, get_or-set_same, get_or-set_other, eq-eqb, ne_eqb}
 use Rattle.vectors.specs.File.{place_of, entries_size, FieldKnown, Known}
 
 -- One place more of a list that is filled from its first place on.

@@ -4,7 +4,7 @@ ghost use Rattle.vectors.specs.File.{wanted_step, wanted_key, AsFields, AsSteps,
 
 use crate::file;
 use crate::file::{byte, code, count};
-use crate::lists::pattern;
+use crate::rooms::pattern;
 use planner::Answer;
 
 // Whether the refusal and every field that the record has are answered. More fields than the call has are refused.

@@ -3,14 +3,17 @@
 
 mod compare;
 mod file;
-mod lists;
+mod rooms;
 
 ghost use Rattle.std.specs.Prelude.{◌≡◌, ◌+◌, ◌<◌, ◌≤◌, length};
+ghost use Rattle.vectors.specs.File.{IsPrefixLen};
 
 use compare::{same_answer, same_count, same_fields, same_keys, same_steps};
 use file::{count, field, number, part};
-use libc::STDOUT_FILENO;
-use lists::{cut8, cut16, cut32, cut64, fill_result, fill_steps, fill_work};
+use rooms::{cut8, cut16, cut32, cut64, fill_result, fill_steps, fill_work};
+use std::fs::File;
+use std::io;
+use std::io::Read;
 
 // How many records are read, which differs first and how many differ. Where the file is not sound: the record that cannot be read, and its
 // strange field.
@@ -140,8 +143,8 @@ fn fresh_replay_as(
 }
 
 fn check_replay(rec: &[u8], kinds: &[u8], steps: &[u16]) -> bool {
-    let mut room = lists::result_room();
-    let mut keys = lists::result_room();
+    let mut room = rooms::result_room();
+    let mut keys = rooms::result_room();
     let n = cut8(count(field(rec, file::LENT), 0), &room);
     let p = cut8(file::places(field(rec, file::PLACES), steps.len()), &keys);
     fresh_replay_as(rec, kinds, steps, &mut room[..n], &mut keys[..p])
@@ -174,7 +177,7 @@ fn fresh_rewind_as(rec: &[u8], kinds: &[u8], steps: &[u16], res: &mut [u8]) -> b
 }
 
 fn check_rewind(rec: &[u8], kinds: &[u8], steps: &[u16]) -> bool {
-    let mut room = lists::result_room();
+    let mut room = rooms::result_room();
     let n = cut8(count(field(rec, file::LENT), 0), &room);
     fresh_rewind_as(rec, kinds, steps, &mut room[..n])
 }
@@ -257,7 +260,7 @@ fn check_built(rec: &[u8], star: bool, steps: &mut [u16]) -> bool {
 
 // Replay, stepping back, or else marking.
 fn asked_as(rec: &[u8], call: usize, kinds: &[u8], prices: &[u32], steps: &mut [u16]) -> bool {
-    lists::load_steps(field(rec, file::ASKED), steps);
+    rooms::load_steps(field(rec, file::ASKED), steps);
     if call == 1 {
         return check_replay(rec, kinds, steps);
     }
@@ -295,7 +298,7 @@ fn check_record(
     heads: &mut [u64],
     list: &mut [u64],
 ) -> bool {
-    let table = lists::price_list(bytes, rec);
+    let table = rooms::price_list(bytes, rec);
     let kinds = file::kinds(bytes, rec);
     let n = cut32(file::passed(field(rec, file::PASSED), 0, 196), &table);
     let prices = &table[..n];
@@ -378,10 +381,10 @@ fn check_records(
 }
 
 fn check_file(bytes: &[u8]) -> Tally {
-    let mut steps = lists::step_room();
-    let mut nodes = lists::node_room();
-    let mut heads = lists::head_room();
-    let mut list = lists::open_room();
+    let mut steps = rooms::step_room();
+    let mut nodes = rooms::node_room();
+    let mut heads = rooms::head_room();
+    let mut list = rooms::open_room();
     fill_work(&mut nodes, 3);
     fill_work(&mut heads, 5);
     fill_work(&mut list, 7);
@@ -393,45 +396,51 @@ fn check_file(bytes: &[u8]) -> Tally {
 }
 
 // Which record cannot be read, and which of its fields is not known, if that is why.
-fn say_unreadable(record: usize, strange: usize) {
-    io::write_all(STDOUT_FILENO, b"unreadable at record ");
-    io::print_decimal(STDOUT_FILENO, record as u64);
+fn say_unreadable(rt: &impl Print, record: usize, strange: usize) -> io::Result<()> {
+    print!(rt; "unreadable at record {record}")?;
     if strange % 257 != 0 {
-        io::write_all(STDOUT_FILENO, b": field ");
-        io::print_decimal(STDOUT_FILENO, (strange - 1) as u64);
-        io::write_all(STDOUT_FILENO, b" is not known or out of order");
+        let tag = strange - 1;
+        print!(rt; ": field {tag} is not known or out of order")?;
     }
-    io::write_all(STDOUT_FILENO, b"\n");
+    println!(rt)
 }
 
-fn say(tally: Tally) {
+fn say(rt: &impl Print, tally: Tally) -> io::Result<()> {
+    let records = tally.records;
+    let first = tally.first;
+    let wrong = tally.wrong;
     if !tally.sound {
-        say_unreadable(tally.records, tally.first);
-        return;
+        return say_unreadable(rt, records, first);
     }
-    if tally.wrong == 0 {
-        io::print_decimal(STDOUT_FILENO, tally.records as u64);
-        io::write_all(STDOUT_FILENO, b" vectors as expected\n");
-        return;
+    if wrong == 0 {
+        return println!(rt; "{records} vectors as expected");
     }
-    io::write_all(STDOUT_FILENO, b"record ");
-    io::print_decimal(STDOUT_FILENO, tally.first as u64);
-    io::write_all(STDOUT_FILENO, b" differs, ");
-    io::print_decimal(STDOUT_FILENO, tally.wrong as u64);
-    io::write_all(STDOUT_FILENO, b" of ");
-    io::print_decimal(STDOUT_FILENO, tally.records as u64);
-    io::write_all(STDOUT_FILENO, b" differ\n");
+    println!(rt; "record {first} differs, {wrong} of {records} differ")
 }
 
-fn main() {
-    let path = b"vectors.bin";
-    let fd = os::open_read(path);
-    if fd < 0 {
-        os::fail(path);
-        return;
+// Reads until the list is full, the file ends or a read fails, and says how many bytes stand in the list.
+fn read_full(file: &mut File, list: &mut [u8]) -> usize
+    ensures { IsPrefixLen result list.new }
+{
+    let mut done: usize = 0;
+    while done < list.len() {
+        let n = file.read(&mut list[done..]).unwrap_or(0);
+        if n == 0 {
+            break;
+        }
+        done += n;
     }
-    let mut bytes = lists::file_room();
-    let n = io::read_full(fd, &mut bytes);
-    libc::close(fd);
-    say(check_file(&bytes[..n]));
+    done
+}
+
+fn main(rt: HostRuntime) -> io::Result<()> {
+    let path = "vectors.bin";
+    let mut file = match File::open(&rt, path) {
+        Ok(file) => file,
+        Err(error) => return eprintln!(rt; "{path}: {error}"),
+    };
+    let mut bytes = rooms::file_room();
+    let n = read_full(&mut file, &mut bytes);
+    drop(file);
+    say(&rt, check_file(&bytes[..n]))
 }

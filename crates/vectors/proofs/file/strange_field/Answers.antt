@@ -1,0 +1,30 @@
+-- What is left of the fields decides whether all are known; the measure is how many are left.
+use Rattle.std.proofs.Common.{◌≡◌, ℕ, suc, ◌+◌, ◌-◌, get_or, sym, subst, arith, rules}
+use Rattle.vectors.specs.File.{Known}
+use Rattle.vectors.specs.Laws.{known_more, known_all}
+use Rattle.vectors.proofs.file.strange_field.Goals as goal
+
+pub loop-i-preserved : goal.loop-i-preserved
+loop-i-preserved c =
+    let l = c.loop-i in
+    let n = c.short-n.result in
+    let rec = c.args.rec.now in
+    let m = n - (l.i + 1) in
+    let s : n - l.i ≡ suc m = omega arith in
+    let field = c.is_known.ensures c.if-not-is_known.false in (
+      omega arith,
+      search rules,
+      search rules,
+      λ k.
+          let tagged = subst (λ (t : ℕ). Known m rec (l.at + (4 + c.entries_size.result)) t) c.byte-last.ensures k in
+          let placed = subst (λ (p : ℕ). Known m rec (l.at + (4 + p)) (get_or rec l.at 0)) c.entries_size.ensures.0 tagged in
+          l.invariant.3 (subst (λ (d : ℕ). Known d rec l.at l.last) (sym s) (known_more m rec l.at l.last field placed)),
+    )
+
+pub returns : goal.returns
+returns c = λ e.
+    let l = c.loop-i in
+    let n = c.short-n.result in
+    let rec = c.args.rec.now in
+    let z : n - l.i ≡ 0 = omega arith in
+    l.invariant.3 (subst (λ (d : ℕ). Known d rec l.at l.last) (sym z) (known_all rec l.at l.last c.if-at-rec.false))
