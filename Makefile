@@ -1,10 +1,11 @@
 # Builds and installs the library for C and Rust programs.
 #
 #   make                          target/lib/libnimskerf.a and libnimskerf.so
+#   make target/bin/desk          the exam desk
 #   make install PREFIX=/usr/local [DESTDIR=..]
 #   make check                    the tests outside the proofs (tests/check)
 #
-# CAPI    a libcapi.a that is there already; by default `rt staticlib capi` proves and writes one
+# CAPI    a libcapi.a that is there already; by default `rt lib` proves crate capi_c and writes one
 # CC, AR, CFLAGS, LDFLAGS   as usual
 
 CC ?= cc
@@ -23,14 +24,23 @@ SHARED := libnimskerf.so.$(VERSION)
 LIB := target/lib
 OBJECTS := target/c/nimskerf.o target/c/words.o
 HEADERS := include/nimskerf.h include/nimskerf_proved.h
-# What libcapi.a is made from: capi and the crates under it.
-CRATES := capi $(shell sed -n 's/^capi://p' crates.txt)
-SOURCES := crates.txt $(shell find $(CRATES:%=crates/%) -name '*.rt' -o -name '*.antt')
+# What libcapi.a is made from: capi_c, capi and the crates under it.
+CRATES := capi_c capi $(shell sed -n 's/^capi://p' crates.txt)
+SOURCES := crates.txt $(shell find $(CRATES:%=crates/%) -name out -prune -o \( -name '*.rt' -o -name '*.antt' \) -print)
 
 all: $(LIB)/libnimskerf.a $(LIB)/libnimskerf.so
 
 target/staticlib/libcapi.a: $(SOURCES)
-	rt staticlib capi
+	@mkdir -p $(@D)
+	cd crates/capi_c && rt lib
+	cp crates/capi_c/out/libcapi_c.a $@
+
+# The exam desk. `rt run` proves and links it, and runs it, here on no input.
+DESK := desk $(shell sed -n 's/^desk://p' crates.txt)
+target/bin/desk: crates.txt $(shell find $(CRATES:%=crates/%) $(DESK:%=crates/%) -name out -prune -o \( -name '*.rt' -o -name '*.antt' \) -print)
+	@mkdir -p $(@D)
+	cd crates/desk && rt run </dev/null >/dev/null
+	cp crates/desk/out/desk $@
 
 target/c/%.o: c/%.c $(HEADERS)
 	@mkdir -p $(@D)

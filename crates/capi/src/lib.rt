@@ -1,5 +1,4 @@
-// The public calls as C functions on numbers and slices (a slice passes as a pointer, then a length). Each is one call, with its contract.
-// include/nimskerf_proved.h declares them; c/nimskerf.c, which C programs call, checks pointers and hands on.
+// The public calls on numbers and slices alone, as C functions have them. Each is one call, with its contract; crate capi_c exports them.
 #![tactic(auto)]
 
 ghost use Rattle.std.specs.Prelude.{◌≡◌, length};
@@ -22,8 +21,7 @@ use rewind::Rewound;
 use star_swap::Written;
 use window::Packing;
 
-#[unsafe(no_mangle)]
-pub extern "C" fn nimskerf_proved_plan(
+pub fn nimskerf_proved_plan(
     start: &[u8],
     goal: &[u8],
     dup_max: usize,
@@ -65,8 +63,7 @@ pub extern "C" fn nimskerf_proved_plan(
     )
 }
 
-#[unsafe(no_mangle)]
-pub extern "C" fn nimskerf_proved_replay(
+pub fn nimskerf_proved_replay(
     start: &[u8],
     steps: &[u16],
     dup_max: usize,
@@ -84,8 +81,7 @@ pub extern "C" fn nimskerf_proved_replay(
     )
 }
 
-#[unsafe(no_mangle)]
-pub extern "C" fn nimskerf_proved_rewind(
+pub fn nimskerf_proved_rewind(
     end: &[u8],
     steps: &[u16],
     popped: &[u8],
@@ -104,15 +100,13 @@ pub extern "C" fn nimskerf_proved_rewind(
     )
 }
 
-#[unsafe(no_mangle)]
-pub extern "C" fn nimskerf_proved_pops(steps: &[u16]) -> usize
+pub fn nimskerf_proved_pops(steps: &[u16]) -> usize
     ensures { result ≡ count_of 0 steps.now }
 {
     replay::pops(steps)
 }
 
-#[unsafe(no_mangle)]
-pub extern "C" fn nimskerf_proved_mark(
+pub fn nimskerf_proved_mark(
     start: &[u8],
     goal: &[u8],
     steps: &[u16],
@@ -142,15 +136,13 @@ pub extern "C" fn nimskerf_proved_mark(
     )
 }
 
-#[unsafe(no_mangle)]
-pub extern "C" fn nimskerf_proved_pack(ids: &[u8]) -> Packing
+pub fn nimskerf_proved_pack(ids: &[u8]) -> Packing
     ensures { result ≡ packing 6 21 ids.now }
 {
     window::pack(ids)
 }
 
-#[unsafe(no_mangle)]
-pub extern "C" fn nimskerf_proved_star_swap(
+pub fn nimskerf_proved_star_swap(
     start: &[u8],
     goal: &[u8],
     swap_max: usize,
@@ -161,8 +153,7 @@ pub extern "C" fn nimskerf_proved_star_swap(
     star_swap::star_swap(start, goal, swap_max, steps)
 }
 
-#[unsafe(no_mangle)]
-pub extern "C" fn nimskerf_proved_delete_tail(
+pub fn nimskerf_proved_delete_tail(
     start: &[u8],
     goal: &[u8],
     swap_max: usize,
