@@ -1,9 +1,9 @@
 -- The costs of crate costs as the abstract search has them: by gas, then bytes, with sums that stop at the greatest u32.
-use Rattle.std.specs.Prelude.{ℕ, suc, ◌+◌, ◌*◌, ◌≤◌, ◌<◌, max, ◌≡◌, refl, Bool, true, false, not, ◌&&◌, ◌||◌, eqb, ltb, leb}
-use Rattle.std.proofs.Common.{sym, ◌∙◌, arith, eqb-true, eq-eqb, ne_eqb, lt-ltb, le-ltb, le-leb, ltb-true, ltb-false}
+use Rattle.std.specs.Prelude.{ℕ, suc, ◌*◌, ◌≤◌, ◌<◌, max, ◌≡◌, refl, Bool, true, false, not, ◌&&◌, ◌||◌, eqb, ltb, leb}
+use Rattle.std.proofs.Common.{arith, eqb-true, le-leb, ltb-true, ltb-false}
 use Rattle.std.proofs.lemmas.Bool.{eqb-false, lt-leb}
 use Rattle.costs.specs.Choice.{◌if◌otherwise◌}
-use Rattle.costs.specs.Cost.{capped, none, plus, no_more}
+use Rattle.costs.specs.Cost.{none, plus, no_more}
 use Rattle.costs.specs.declared.Cost.{Cost}
 use Rattle.astar.specs.Cost.{CostAlgebra, lex}
 use Rattle.astar.specs.Pairs.{top, sat, sat_is, numbers, number_then, renamed}

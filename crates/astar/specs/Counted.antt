@@ -1,12 +1,12 @@
 -- What an answer tells of its run: at most so many expansions as allowed, and an ending of document 01.
-use Rattle.std.specs.Prelude.{◌≡◌, refl, Bool, cond, ℕ, zero, suc, ◌<◌, ◌≤◌, leb, eqb}
+use Rattle.std.specs.Prelude.{◌≡◌, refl, ℕ, ◌<◌, ◌≤◌, leb, eqb}
 use Rattle.std.proofs.Common.{sym}
 use Rattle.std.proofs.Math.Path.{subst}
 use Rattle.std.proofs.Math.Option.{Option, none, some}
 use mathlib.Core.List.{List, [], ◌∷◌}
 use native.Mathlib.Omega.{arith}
 use Rattle.astar.specs.Cost.{CostAlgebra, same}
-use Rattle.astar.specs.Search.{Problem, Allowance, Ending, drained, cutOff, states, expansions, number, Search, Turn, stop, go, Result, Entry, Node, find, cut, over, visit, drawn, turn_on, turn, without, begin, run, enough}
+use Rattle.astar.specs.Search.{Problem, Allowance, Ending, drained, cutOff, states, expansions, number, Search, Turn, stop, go, Entry, Node, find, cut, over, visit, drawn, turn_on, turn, without, begin, run, enough}
 use Rattle.astar.specs.Turns.{Reach, here, next, Keeps, of_go}
 use Rattle.astar.specs.Tests.{by_cond}
 use Rattle.astar.specs.Room.{Bounded}

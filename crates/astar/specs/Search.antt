@@ -1,6 +1,6 @@
 -- The bounded A* search over any costs and any problem. All of it states document 01, section "One turn of the search"; a name in quotes is the
 -- beginning of the sentence there.
-use Rattle.std.specs.Prelude.{◌≡◌, Bool, true, false, cond, not, ◌&&◌, ◌||◌, List, [], ◌∷◌, ℕ, zero, suc, ◌+◌, ◌*◌, T, leb, ltb, eqb, length}
+use Rattle.std.specs.Prelude.{Bool, true, cond, not, ◌||◌, List, [], ◌∷◌, ℕ, zero, suc, ◌+◌, ◌*◌, leb, ltb, eqb, length}
 use Rattle.std.proofs.Math.Option.{Option, none, some, bind}
 use Rattle.astar.specs.Cost.{CostAlgebra, lt, same, lex}
 

@@ -4,7 +4,7 @@ use Rattle.std.proofs.Common.{subst}
 use Rattle.std.proofs.Math.Option.{Option}
 use mathlib.Core.List.{List, [], ◌∷◌, Memᴰ}
 use Rattle.astar.specs.Cost.{CostAlgebra}
-use Rattle.astar.specs.Search.{Problem, Succ, Allowance, Search, Turn, go, Entry, Work, Hand, find, before, push, cut, better, entry_of, step_of, offer, offers, without, turn, begin}
+use Rattle.astar.specs.Search.{Problem, Succ, Allowance, Search, go, Entry, Work, Hand, find, before, push, cut, better, entry_of, step_of, offer, offers, without, turn, begin}
 use Rattle.astar.specs.Tests.{by_cond}
 use Rattle.astar.specs.Turns.{Reach, here, next, Keeps, of_go}
 

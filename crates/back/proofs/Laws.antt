@@ -1,28 +1,26 @@
 -- A read-back and its count, one state after the other.
-use mathlib.Core.Path.{◌≡◌, refl, sym, ap, ap₂, ◌∙◌, subst}
-use mathlib.Core.Bool.{Bool, true, false, cond}
+use mathlib.Core.Path.{◌≡◌, refl, sym, ap, ◌∙◌}
+use mathlib.Core.Bool.{true, false}
 use mathlib.Core.List.{List, [], ◌∷◌}
 use mathlib.Core.Option.{Option, none, some, bind}
-use Prim.Native.Nat.{ℕ, zero, suc, ◌+◌, ◌-◌, ◌≤◌, ◌<◌}
+use Prim.Native.Nat.{ℕ, zero, suc, ◌≤◌, ◌<◌}
 use native.Mathlib.Omega.{arith}
-use borrow.Author.Tests.{lt-ltb, le-ltb}
-use lib.Dec.{eqb, ltb}
+use lib.Dec.{eqb}
 use lib.ListN.{length, take, drop, set}
 use Rattle.algebra.specs.GasBytes.{gas_bytes}
 use Rattle.astar.specs.Search.{find, parent_in, read_back}
 use Rattle.window.specs.declared.PackedState.{PackedState}
 use Rattle.window.specs.State.{whole}
 use Rattle.nodes.proofs.Lemmas.{by_test}
-use Rattle.lists.specs.View.{SearchNode, parent_is, node_is, recalled}
+use Rattle.lists.specs.View.{SearchNode, parent_is, recalled}
 use Rattle.offer.specs.Rules.{bare}
 use Rattle.costs.specs.declared.Step.{Step}
 use Rattle.costs.specs.Step.{code_of}
 use Rattle.lists.specs.declared.Node.{Node}
-use Rattle.lists.specs.declared.Parent.{Parent}
 use Rattle.lists.specs.declared.Parent.TheVariants.{Start, By}
 use Rattle.lists.specs.declared.Known.{Known}
 use Rattle.lists.specs.declared.Known.TheVariants.{Is, New}
-use Rattle.back.specs.Back.{count_back, plan}
+use Rattle.back.specs.Back.{count_back}
 
 -- ---- the parent of a state that was recalled
 

@@ -1,14 +1,14 @@
 -- The two passes.
-use mathlib.Core.Path.{◌≡◌, refl, sym, ap, ap₂, ◌∙◌, subst}
+use mathlib.Core.Path.{◌≡◌, refl, sym, ap, ap₂, ◌∙◌}
 use mathlib.Core.Bool.{Bool, true, false}
 use mathlib.Core.List.{List, [], ◌∷◌}
 use mathlib.Core.Option.{Option, none, some}
-use Prim.Native.Nat.{ℕ, zero, suc, ◌+◌, ◌-◌, ◌≤◌, ◌<◌}
+use Prim.Native.Nat.{ℕ, suc, ◌+◌, ◌-◌, ◌≤◌, ◌<◌}
 use native.Mathlib.Omega.{arith}
 use lib.Dec.{eqb}
 use lib.ListN.{length, take, drop, set, length-set}
 use Rattle.algebra.specs.GasBytes.{gas_bytes}
-use Rattle.astar.specs.Search.{find, parent_in, read_back}
+use Rattle.astar.specs.Search.{find, read_back}
 use Rattle.window.specs.declared.PackedState.{PackedState}
 use Rattle.window.specs.State.{whole}
 use Rattle.offer.specs.Rules.{bare}
@@ -16,7 +16,6 @@ use Rattle.lists.specs.View.{SearchNode, recalled}
 use Rattle.costs.specs.declared.Step.{Step}
 use Rattle.costs.specs.Step.{code_of}
 use Rattle.lists.specs.declared.Node.{Node}
-use Rattle.lists.specs.declared.Parent.{Parent}
 use Rattle.lists.specs.declared.Parent.TheVariants.{Start, By}
 use Rattle.lists.specs.declared.Known.{Known}
 use Rattle.lists.specs.declared.Known.TheVariants.{Is, New}

@@ -1,5 +1,5 @@
 -- Reading a plan back: how many steps, and which.
-use Rattle.std.specs.Prelude.{◌≡◌, Bool, true, false, cond, List, [], ◌∷◌, ℕ, zero, suc, ◌+◌, ◌≤◌, eqb, length, take, drop}
+use Rattle.std.specs.Prelude.{◌≡◌, cond, List, [], ℕ, zero, suc, ◌≤◌, eqb, length, take, drop}
 use Rattle.std.proofs.Math.Option.{Option, none, some, bind}
 use Rattle.algebra.specs.GasBytes.{gas_bytes}
 use Rattle.astar.specs.Search.{find, parent_in, read_back}

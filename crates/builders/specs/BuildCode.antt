@@ -1,17 +1,16 @@
 -- What a builder's plan is once it stands in a list, and the phases behind one another.
-use Rattle.std.specs.Prelude.{ℕ, ◌+◌, ◌-◌, ◌≤◌, Bool, List, ◌++◌, ◌≡◌, refl, length, take, drop}
+use Rattle.std.specs.Prelude.{ℕ, ◌≤◌, Bool, List, ◌++◌, ◌≡◌, refl, length, take, drop}
 use Rattle.std.proofs.Math.Bool.{true, false}
 use Rattle.std.proofs.Math.Option.{Option, none, some}
 use Rattle.std.proofs.Common.{ap, ◌∙◌, arith, length-append, take_at, length-take-le}
 use Rattle.std.proofs.Math.Path.{sym, subst}
 use Rattle.costs.specs.Choice.{◌if◌otherwise◌}
-use Rattle.replay.specs.Machine.{Rules, room}
+use Rattle.replay.specs.Machine.{Rules}
 use Rattle.window.specs.Keys.{keys_of, keys_length}
-use Rattle.star_swap.specs.Star.{at}
 use Rattle.star_swap.specs.Check.{Window}
 use Rattle.builders.specs.Draft.{Draft, fresh, routed, steps_of, built_of}
 use Rattle.star_swap.specs.Refusal.{unroutable}
-use Rattle.star_swap.specs.Routable.{Small, small_of, routable_routed, routed_pair}
+use Rattle.star_swap.specs.Routable.{small_of, routable_routed, routed_pair}
 use Rattle.builders.specs.Work.{draft_of, Begun, CanRoute, Wrote}
 use Rattle.builders.specs.Dup.{and_then, trimmed, filled, finished, dup_and_star}
 use Rattle.builders.specs.Tail.{not_tail, delete_tail, tail_plan}

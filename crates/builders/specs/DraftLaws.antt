@@ -1,5 +1,5 @@
 -- A draft whose steps replay from the start to its window; each allowed step keeps that, and so does star-swap.
-use Rattle.std.specs.Prelude.{ℕ, suc, ◌+◌, ◌-◌, ◌<◌, ◌≤◌, true, List, [], ◌∷◌, ◌++◌, ◌≡◌, refl, length}
+use Rattle.std.specs.Prelude.{ℕ, suc, ◌+◌, ◌<◌, ◌≤◌, true, List, [], ◌∷◌, ◌++◌, ◌≡◌, refl, length}
 use Rattle.std.proofs.Common.{ap, sym, ◌∙◌, arith, lt-ltb}
 use Rattle.std.proofs.Math.Option.{Option, none, some}
 use Rattle.costs.specs.Laws.{OperandFits, decoded_code}

@@ -14,7 +14,7 @@ use Rattle.costs.specs.declared.Step.{Step}
 use Rattle.costs.specs.declared.Step.TheVariants.{Dup, Swap, PushImm, LoadVal}
 use Rattle.replay.specs.Machine.{Rules, room, immediate}
 use Rattle.replay.specs.Laws.{Ready}
-use Rattle.window.specs.Keys.{keys_of, Window as Packed, keys_length}
+use Rattle.window.specs.Keys.{keys_of, Window as Packed}
 use Rattle.builders.specs.Draft.{Draft, does}
 use Rattle.costs.specs.Table.{count_of}
 use Rattle.star_swap.specs.Tests.{by_test}

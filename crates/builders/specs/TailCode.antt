@@ -1,7 +1,7 @@
 -- Laws that delete-tail's code goes by.
 use Rattle.std.specs.Prelude.{ℕ, ◌+◌, ◌-◌, ◌<◌, ◌≤◌, Bool, true, false, not, ◌||◌, List, [], ◌++◌, ◌≡◌, refl, length, get_or, set, take, drop, ltb}
 use Rattle.std.proofs.Math.Path.{ap, sym, subst}
-use Rattle.std.proofs.Common.{◌∙◌, arith, zero-add, length-set, length-append, take_at, length-take-le}
+use Rattle.std.proofs.Common.{◌∙◌, arith, zero-add, length-set, length-append, length-take-le}
 use borrow.Author.Tests.{ltb-true, ltb-false, not-false, eq-eqb, ne_eqb}
 use Rattle.std.proofs.lemmas.List.{length-map}
 use Rattle.std.proofs.Math.ListN.{drop_of_length-le}
@@ -10,7 +10,7 @@ use Rattle.costs.specs.Laws.{drop_turn, passed, or_left}
 use Rattle.costs.specs.Choice.{◌if◌otherwise◌}
 use Rattle.window.specs.Written.{over_turn}
 use Rattle.replay.specs.Machine.{plain_rules}
-use Rattle.window.specs.Keys.{keys_of, keys_length}
+use Rattle.window.specs.Keys.{keys_of}
 use Rattle.star_swap.specs.Star.{star_swaps, codes, code}
 use Rattle.star_swap.specs.StarCode.{Pair}
 use Rattle.star_swap.specs.StarLoop.{Appended}
@@ -23,7 +23,7 @@ use Rattle.star_swap.specs.Check.{Taken, taken, goal_window}
 use Rattle.star_swap.specs.Call.{written_refused, written_given}
 use Rattle.star_swap.specs.declared.Written.{Written}
 use Rattle.builders.specs.Work.{draft_of, Begun, CanBury, Buried, CanPop, Popped, CanRoute, Wrote}
-use Rattle.builders.specs.Area.{Work, length_of}
+use Rattle.builders.specs.Area.{Work}
 
 -- what is left of both decides
 pub record Beginning (goal start : List ℕ) (i : ℕ) : Type 0 where

@@ -18,7 +18,7 @@ use Rattle.star_swap.specs.Star.{at, last_of}
 use Rattle.star_swap.specs.Circuit.{last_split}
 use Rattle.star_swap.specs.StarCode.{Pair}
 use Rattle.star_swap.specs.Routes.{Routed}
-use Rattle.builders.specs.Draft.{Draft, fresh, does, routed}
+use Rattle.builders.specs.Draft.{Draft, fresh, does}
 use Rattle.star_swap.specs.Ran.{swap_allowed}
 use Rattle.star_swap.specs.Routable.{small_of, routed_pair}
 use Rattle.builders.specs.DraftLaws.{Reached, reached_fresh, reached_does, pop_allowed, reached_routed}

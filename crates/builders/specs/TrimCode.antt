@@ -9,12 +9,10 @@ use borrow.Author.Tests.{lt-ltb, le-ltb, ne_eqb, not-true, not-false, le-leb, lt
 use Rattle.std.proofs.Math.Decide.{dec_lt}
 use Rattle.costs.specs.Choice.{◌if◌otherwise◌}
 use Rattle.costs.specs.Laws.{drop_turn}
-use Rattle.costs.specs.declared.Step.{Step}
 use Rattle.costs.specs.declared.Step.TheVariants.{Pop, Swap}
 use Rattle.window.specs.Keys.{keys_of, Window as Packed}
 use Rattle.window.specs.Laws.{key_lt}
 use Rattle.window.specs.declared.PackedState.{PackedState}
-use Rattle.star_swap.specs.Star.{at}
 use Rattle.star_swap.specs.Check.{Counts}
 use Rattle.builders.specs.Draft.{Draft, does}
 use Rattle.costs.specs.Table.{count_of}

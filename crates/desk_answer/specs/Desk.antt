@@ -13,7 +13,6 @@ use Rattle.desk_text.specs.Machine.{no_numbers, fresh}
 use Rattle.desk_text.specs.Feeding.{new_heard, heard_more}
 use Rattle.desk_text.specs.declared.read.Reading.{Reading}
 use Rattle.desk_text.specs.declared.read.Reading.TheVariants.{Question}
-use Rattle.desk_text.specs.declared.read.Reading.TheVariants as Reading
 use Rattle.desk_text.specs.Passed.{keys_back}
 use Rattle.desk_text.specs.Reader.{Heard, Fed, KeysWithin, Finished}
 use Rattle.desk_text.specs.Text.{desk_text, printed}

@@ -7,7 +7,7 @@
 ghost use Rattle.std.specs.Prelude.{◌≡◌, ◌≤◌, length};
 
 use desk_answer::answer;
-use libc::{STDIN_FILENO, STDOUT_FILENO};
+use std::io::{self, Read};
 
 // A case: where its name ends, whether it is whole, whether the answer is the expected one, and the place behind it.
 #[derive(Clone, Copy)]
@@ -23,6 +23,13 @@ fn text_room() -> [u8; 32768]
     ensures { length result ≡ 32768 }
 {
     [0; 32768]
+}
+
+// Room for a case's input written out.
+fn input_room() -> [u8; 65536]
+    ensures { length result ≡ 65536 }
+{
+    [0; 65536]
 }
 
 // The place of the next bar from a place on, or the table's end.
@@ -100,11 +107,11 @@ fn write_out(field: &[u8], text: &mut [u8]) -> usize
 
 // Whether the desk's answer to an input is the expected text.
 fn answered(input: &[u8], expected: &[u8]) -> bool {
-    let mut text = io::large_buffer();
+    let mut text = input_room();
     let n = write_out(input, &mut text);
     let mut out = text_room();
     let k = answer(&text[..n], &mut out);
-    check::same(&out[..k], expected)
+    &out[..k] == expected
 }
 
 // The case from a place on.
@@ -127,34 +134,31 @@ fn case_at(table: &[u8], from: usize) -> Case
 }
 
 // Runs the cases of a table; the turns are at most its bytes.
-fn run(table: &[u8]) {
+fn run(rt: &impl Print, table: &[u8]) -> io::Result<()> {
     let mut at = 0;
     let mut count: u64 = 0;
     let mut turns = table.len();
     while 0 < turns {
         let case = case_at(table, at);
         if !case.whole {
-            io::print_decimal(STDOUT_FILENO, count);
-            io::write_all(STDOUT_FILENO, b" desk inputs as expected\n");
-            return;
+            return println!(rt; "{count} desk inputs as expected");
         }
         if !case.right {
             let named = case.named;
-            io::write_all(STDOUT_FILENO, b"differs at index ");
-            io::print_decimal(STDOUT_FILENO, count);
-            io::write_all(STDOUT_FILENO, &table[at..named]);
-            io::write_all(STDOUT_FILENO, b"\n");
-            return;
+            print!(rt; "differs at index {count}")?;
+            rt.write_all(&table[at..named])?;
+            return println!(rt; "");
         }
-        count = std::num::wrapping_add_u64(count, 1);
+        count = count.wrapping_add(1);
         at = case.next;
         turns -= 1;
     }
-    io::write_all(STDOUT_FILENO, b"no table\n");
+    println!(rt; "no table")
 }
 
-fn main() {
-    let mut table = io::large_buffer();
-    let n = io::read_full(STDIN_FILENO, &mut table);
-    run(&table[..n]);
+fn main(rt: HostRuntime) -> io::Result<()> {
+    let mut table = Vec::new(rt.alloc());
+    let mut input = rt.stdin();
+    input.read_to_end(&mut table)?;
+    run(&rt, &table)
 }

@@ -1,5 +1,5 @@
 -- The reader byte by byte: what it holds after a text. `Meaning.antt` proves that its answer is the grammar's question.
-use Rattle.std.specs.Prelude.{ℕ, ◌+◌, ◌*◌, ◌-◌, true, false, not, List, [], ◌∷◌, eqb, ltb, take, drop, set, replicate}
+use Rattle.std.specs.Prelude.{ℕ, ◌+◌, ◌*◌, ◌-◌, true, false, List, [], ◌∷◌, eqb, ltb, take, drop, set, replicate}
 use Rattle.std.proofs.Math.Option.{Option, none, some}
 use Rattle.costs.specs.Choice.{◌if◌otherwise◌}
 use Rattle.desk_text.specs.Noted.{Noted}

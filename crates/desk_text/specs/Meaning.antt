@@ -1,5 +1,5 @@
 -- The reader's answer after a text is the grammar's question of that text.
-use Rattle.std.specs.Prelude.{ℕ, ◌+◌, ◌-◌, ◌<◌, ◌≤◌, Bool, List, [], ◌∷◌, ◌++◌, ◌≡◌, eqb, length, drop}
+use Rattle.std.specs.Prelude.{ℕ, ◌<◌, ◌≤◌, Bool, List, [], ◌∷◌, ◌++◌, ◌≡◌, eqb, length, drop}
 use Rattle.std.proofs.Math.Bool.{true, false}
 use Rattle.std.proofs.Math.Option.{Option, none, some}
 use Rattle.std.proofs.Math.Path.{refl}
@@ -9,7 +9,7 @@ use Rattle.std.proofs.lemmas.Bool.{eqb-false}
 use Rattle.std.proofs.Math.ListN.{take}
 use Rattle.costs.specs.Choice.{◌if◌otherwise◌}
 use Rattle.desk_text.specs.Noted.{Noted}
-use Rattle.desk_text.specs.Grammar.{last_line, lines_from, words_from, all_digits, value_from, before, all_read, line_numbers}
+use Rattle.desk_text.specs.Grammar.{last_line, lines_from, words_from, all_digits, value_from, all_read, line_numbers}
 use Rattle.desk_text.specs.Question.{Asked, question_of}
 use Rattle.desk_text.specs.Machine.{fresh, lost, word_ended, first_closed, second_closed, third_closed, line_closed, line_fed, fed_byte, fed_all, at_end, outcome}
 use Rattle.desk_text.specs.Reader.{Sound}

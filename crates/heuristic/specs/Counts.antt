@@ -2,7 +2,7 @@
 use Rattle.std.specs.Prelude.{ℕ, zero, suc, ◌+◌, ◌-◌, ◌*◌, min, ◌≤◌, ◌<◌, ◌≡◌, refl, Bool, true, false, List, [], ◌∷◌, length, get_or, set, drop, replicate, eqb}
 use Rattle.std.proofs.Common.{sym, ap, subst, ◌∙◌, add-one, le_refl, mul-le-mul, drop_of_length-le, length-drop, length-set, get_or-set_same, get_or-set_other, drop-cons}
 use native.Mathlib.Omega.{arith}
-use Rattle.std.proofs.lemmas.List.{get_or-replicate, length-replicate}
+use Rattle.std.proofs.lemmas.List.{get_or-replicate}
 use borrow.Author.Tests.{eq-eqb, ne_eqb, eqb-true, eqb-false, lt-ltb, le-ltb}
 use Rattle.costs.specs.Cost.{capped}
 use Rattle.costs.specs.Choice.{◌if◌otherwise◌}

@@ -2,7 +2,7 @@
 use Prim.Native.Nat.{ℕ, zero, suc, ◌+◌, ◌-◌, ◌<◌, ◌≤◌, min}
 use Rattle.std.specs.Prelude.{Bool, true, false, ◌≡◌, refl, length, get_or, take, eqb}
 use mathlib.Core.List.{List, [], ◌++◌}
-use Rattle.std.proofs.Math.Option.{Option, none}
+use Rattle.std.proofs.Math.Option.{Option}
 use Rattle.std.proofs.Math.Path.{ap, sym}
 use Rattle.std.proofs.Common.{subst, ◌∙◌, drop_of_length-le, take_at, length-take-le}
 use native.Mathlib.Omega.{arith}

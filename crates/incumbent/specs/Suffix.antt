@@ -3,7 +3,7 @@ use Prim.Native.Nat.{ℕ, zero, suc, ◌+◌, ◌-◌, ◌*◌, ◌<◌, ◌≤�
 use Rattle.std.specs.Prelude.{Bool, List, [], ◌∷◌, refl, get_or, take, drop}
 use Rattle.std.proofs.Math.Bool.{true, false}
 use Rattle.std.proofs.Math.Path.{◌≡◌, sym}
-use Rattle.std.proofs.Common.{ap, ap₂, ◌∙◌, subst, zero-mul, suc-mul, eqb-true, eq-eqb, drop_of_length-le, drop-cons, drop-drop}
+use Rattle.std.proofs.Common.{ap, ap₂, ◌∙◌, zero-mul, suc-mul, eqb-true, eq-eqb, drop_of_length-le, drop-cons, drop-drop}
 use native.Mathlib.Omega.{arith}
 use Rattle.std.proofs.Math.ListN.{length}
 use Rattle.std.proofs.Math.Dec.{eqb}

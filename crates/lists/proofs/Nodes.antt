@@ -1,31 +1,29 @@
 -- What the node list's functions do, in the theory's definitions.
-use mathlib.Core.Path.{◌≡◌, refl, sym, ap, ap₂, ◌∙◌, subst}
-use mathlib.Core.Logic.{◌⊎◌, inl, inr, ⊎_elim}
-use mathlib.Core.Bool.{Bool, true, false, cond}
+use mathlib.Core.Path.{◌≡◌, refl, sym, ap, ap₂, ◌∙◌}
+use mathlib.Core.Logic.{⊎_elim}
+use mathlib.Core.Bool.{Bool, true, false}
 use mathlib.Core.List.{List, [], ◌∷◌, ◌++◌}
 use mathlib.Core.Option.{Option, none, some}
 use Prim.Native.Nat.{ℕ, zero, suc, ◌+◌, ◌*◌, ◌^◌, ◌≤◌, ◌<◌}
 use native.Mathlib.Numerals.{add-one}
 use native.Mathlib.Omega.{arith}
-use borrow.Author.Tests.{eqb-true, eq-eqb, ne_eqb}
+use borrow.Author.Tests.{eqb-true, eq-eqb}
 use mir.Syntax.{w64}
 use mir.Val.{Fits}
 use lib.Dec.{eqb}
 use lib.ListN.{length, get_or, set}
-use Rattle.astar.specs.Search.{find, store}
-use Rattle.astar.specs.Rows.{rows, length_rows, get_d_rows, rows_same, rows_more, rows_set}
-use Rattle.astar.specs.Places.{Once, NotBefore, only_place, found_at, not_found, stored_at, stored_new, once_set, once_new}
+use Rattle.astar.specs.Search.{find}
+use Rattle.astar.specs.Rows.{length_rows, get_d_rows, rows_same, rows_more, rows_set}
+use Rattle.astar.specs.Places.{NotBefore, only_place, found_at, not_found, stored_at, stored_new, once_set, once_new}
 use Rattle.window.specs.declared.PackedState.{PackedState}
 use Rattle.window.specs.State.{whole}
-use Rattle.nodes.specs.Nodes.{row_at, both, is_state, pick, lookup, Chained, Wrote, rows as newest}
+use Rattle.nodes.specs.Nodes.{row_at, both, is_state, lookup, Chained, Wrote, rows as newest}
 use Rattle.nodes.specs.declared.Row.{Row}
 use Rattle.nodes.specs.declared.Found.{Found}
 use Rattle.nodes.specs.declared.Found.TheVariants.{At, Nothing}
 use Rattle.nodes.proofs.Lemmas.{by_test, dec_eq, lookup_lt, lookup_state}
-use Rattle.lists.specs.View.{SearchNode, state_of, node_of, node_is, node_at, nodes_of, blank, Kept, node_found, recalled, Sought, Stored}
+use Rattle.lists.specs.View.{SearchNode, state_of, node_of, node_is, node_at, nodes_of, blank, Kept, node_found, Sought, Stored}
 use Rattle.lists.specs.declared.Node.{Node}
-use Rattle.lists.specs.declared.Known.{Known}
-use Rattle.lists.specs.declared.Known.TheVariants.{Is, New}
 
 -- ---- a state as one number
 

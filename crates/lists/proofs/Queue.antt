@@ -1,15 +1,11 @@
 -- What the open list's functions do, in the theory's definitions.
-use mathlib.Core.Path.{◌≡◌, refl, sym, ap, ap₂, ◌∙◌, subst}
-use mathlib.Core.Logic.{⊎_elim}
-use mathlib.Core.Bool.{Bool, true, false, cond, not, ◌&&◌, ◌||◌}
+use mathlib.Core.Path.{◌≡◌, refl, sym, ap, ap₂, ◌∙◌}
+use mathlib.Core.Bool.{Bool, true, false}
 use mathlib.Core.List.{List, [], ◌∷◌, map}
 use Prim.Native.Nat.{ℕ, zero, suc, ◌+◌, ◌-◌, ◌*◌, ◌/◌, ◌%◌, ◌^◌, ◌≤◌, ◌<◌}
 use native.Mathlib.Omega.{arith}
 use native.Mathlib.Nat.{div-add-mod', mod-lt, suc-mul, mul-le-mul_right}
-use native.Mathlib.Numerals.{add-one}
 use borrow.Author.Tests.{le-leb, lt-leb}
-use mir.Syntax.{w64}
-use mir.Val.{Fits}
 use lib.Arith.{digits_div, digits_mod}
 use lib.Dec.{leb}
 use lib.ListN.{length, length-map}
@@ -19,10 +15,10 @@ use Rattle.costs.specs.Packed.{cost_of}
 use Rattle.window.specs.State.{whole}
 use Rattle.algebra.specs.GasBytes.{gas_bytes}
 use Rattle.astar.specs.Search.{Entry, before, push}
-use Rattle.heap.specs.Heap.{digit, key_of, decode, pick, ins, sort, sorted, Heap}
+use Rattle.heap.specs.Heap.{digit, key_of, decode, ins, sort, sorted, Heap}
 use Rattle.heap.specs.declared.Entry.{Entry as Waiting}
 use Rattle.heap.proofs.Order.{by_lt}
-use Rattle.nodes.proofs.Lemmas.{by_test, dec_eq}
+use Rattle.nodes.proofs.Lemmas.{by_test}
 use Rattle.lists.specs.View.{waits, entry_at, queue_of, Piled, Pushed, Taken}
 
 -- ---- pairs of numbers, by the first and then the second

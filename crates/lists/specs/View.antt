@@ -1,8 +1,7 @@
 -- What the lent lists hold, in the definitions of the search: the nodes in the order of discovery, and the open entries, least first.
-use Rattle.std.specs.Prelude.{◌≡◌, List, [], ◌∷◌, map, ℕ, ◌+◌, ◌*◌, ◌≤◌, length}
+use Rattle.std.specs.Prelude.{◌≡◌, List, ◌∷◌, map, ℕ, ◌+◌, ◌*◌, ◌≤◌, length}
 use Rattle.std.proofs.Math.Option.{Option, none, some}
 use Rattle.costs.specs.declared.Cost.{Cost}
-use Rattle.costs.specs.declared.Step.{Step}
 use Rattle.costs.specs.declared.Decoded.{Decoded}
 use Rattle.costs.specs.declared.Decoded.TheVariants.{Known as Coded, Unknown}
 use Rattle.costs.specs.Step.{code_of, decoded}

@@ -1,5 +1,5 @@
 -- Old answers remain (request U3): with nothing beneath the window, marking answers as document 01 has it, its number and fields.
-use Rattle.std.specs.Prelude.{ℕ, suc, ◌<◌, ◌≤◌, Bool, true, false, ◌||◌, List, ◌≡◌, eqb, ltb, length}
+use Rattle.std.specs.Prelude.{ℕ, suc, ◌<◌, ◌≤◌, Bool, true, ◌||◌, List, ◌≡◌, ltb, length}
 use Rattle.std.proofs.Common.{ap, arith}
 use borrow.Author.Tests.{ne_eqb}
 use Rattle.costs.specs.Choice.{◌if◌otherwise◌}

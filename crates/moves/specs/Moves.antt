@@ -1,7 +1,6 @@
 -- What a step code leads to: the window after the step, the step's listed price, and that window's estimate.
-use Rattle.std.specs.Prelude.{ℕ, ◌≤◌, ◌<◌, ◌≡◌, List, [], eqb, length}
+use Rattle.std.specs.Prelude.{ℕ, ◌≤◌, ◌<◌, ◌≡◌, List, eqb, length}
 use Rattle.costs.specs.Choice.{◌if◌otherwise◌}
-use Rattle.costs.specs.declared.Cost.{Cost}
 use Rattle.costs.specs.declared.Step.{Step}
 use Rattle.costs.specs.declared.Step.TheVariants.{Pop, Dup, Swap, PushImm, LoadVal}
 use Rattle.costs.specs.Packed.{cost_of}

@@ -1,16 +1,13 @@
 -- Laws that the code of a move goes by, one for each kind of step.
-use Rattle.std.specs.Prelude.{ℕ, zero, suc, ◌+◌, ◌*◌, ◌/◌, ◌%◌, ◌≤◌, ◌<◌, ◌≡◌, refl, List, [], ◌∷◌, length, get_or}
+use Rattle.std.specs.Prelude.{ℕ, zero, suc, ◌+◌, ◌/◌, ◌%◌, ◌≤◌, ◌<◌, ◌≡◌, refl, List, [], ◌∷◌, length, get_or}
 use Rattle.std.proofs.Common.{sym, ap, ◌∙◌, subst, arith, eq-eqb, ne_eqb, length-drop, length-set}
 use Rattle.costs.specs.declared.Cost.{Cost}
 use Rattle.costs.specs.declared.Step.{Step}
 use Rattle.costs.specs.declared.Step.TheVariants.{Pop, Dup, Swap, PushImm, LoadVal}
-use Rattle.costs.specs.Packed.{cost_of}
-use Rattle.costs.specs.Price.{pair_at}
 use Rattle.costs.specs.Step.{code_of, pair_of}
 use Rattle.replay.specs.Machine.{after}
 use Rattle.replay.specs.Steps.{after_dup, after_swap, after_push, after_load}
 use Rattle.window.specs.declared.PackedState.{PackedState}
-use Rattle.window.specs.Pack.{Keys, pack}
 use Rattle.window.specs.State.{Held, whole, swapped}
 use Rattle.window.specs.Keys.{keys_of, Window, keys_length}
 use Rattle.successors.specs.Successors.{price_by, firsts}
@@ -20,9 +17,9 @@ use Rattle.heuristic.specs.Bare.{bare_term, over_keys}
 use Rattle.moves.specs.Bare.{bare_standing}
 use Rattle.successors.specs.Parts.{All}
 use Rattle.successors.specs.Limits.{firsts_keys}
-use Rattle.heuristic.specs.Steady.{Cheap, Standing, same_counts_lem, count_swapped}
+use Rattle.heuristic.specs.Steady.{Standing, same_counts_lem, count_swapped}
 use Rattle.moves.specs.declared.Move.{Move}
-use Rattle.moves.specs.Moves.{Doable, Parent, Asking, makes, state_of, Formed, Leads, Told}
+use Rattle.moves.specs.Moves.{Doable, Parent, Asking, makes, Formed, Leads, Told}
 use Rattle.moves.specs.Codes.{code_pop, code_dup, code_swap}
 
 -- the estimate of a window as a cost

@@ -1,9 +1,9 @@
 -- The small functions: costs, the plan in hand, cheaper.
 use mathlib.Core.Path.{◌≡◌, refl, sym, ap, ap₂, ◌∙◌}
-use mathlib.Core.Bool.{Bool, true, false, cond, not, ◌&&◌, ◌||◌}
-use mathlib.Core.List.{List, [], ◌∷◌}
+use mathlib.Core.Bool.{true, false, not}
+use mathlib.Core.List.{List, []}
 use mathlib.Core.Option.{Option, none, some}
-use Prim.Native.Nat.{ℕ, ◌+◌, ◌*◌, ◌/◌, ◌%◌, ◌^◌, ◌≤◌, ◌<◌}
+use Prim.Native.Nat.{ℕ, ◌+◌, ◌*◌, ◌^◌, ◌≤◌, ◌<◌}
 use native.Mathlib.Omega.{arith}
 use borrow.Author.Tests.{le-leb, lt-leb, lt-ltb, le-ltb}
 use lib.Dec.{leb, ltb}
@@ -11,9 +11,8 @@ use lib.ListN.{length}
 use Rattle.costs.specs.declared.Cost.{Cost}
 use Rattle.costs.specs.Cost.{plus}
 use Rattle.costs.specs.Packed.{cost_of}
-use Rattle.window.specs.State.{whole}
 use Rattle.algebra.specs.GasBytes.{gas_bytes, sum_is}
-use Rattle.astar.specs.Search.{Succ, Node, Work, Hand, find, cut, record_goal, better, offer}
+use Rattle.astar.specs.Search.{Succ, Work, Hand, find, cut, record_goal, better, offer}
 use Rattle.nodes.specs.Nodes.{row_at}
 use Rattle.nodes.specs.declared.Found.{Found}
 use Rattle.nodes.specs.declared.Found.TheVariants.{At, Nothing}

@@ -1,21 +1,17 @@
 -- Offering a successor.
-use mathlib.Core.Path.{◌≡◌, refl, sym, ap, ap₂, ◌∙◌}
+use mathlib.Core.Path.{◌≡◌, refl, sym, ap, ◌∙◌}
 use mathlib.Core.Bool.{Bool, true, false, cond}
-use mathlib.Core.List.{List, [], ◌∷◌}
-use mathlib.Core.Option.{Option, none, some}
-use Prim.Native.Nat.{ℕ, ◌+◌, ◌*◌, ◌≤◌, ◌<◌}
+use mathlib.Core.List.{List, []}
+use mathlib.Core.Option.{Option}
+use Prim.Native.Nat.{ℕ, ◌+◌}
 use native.Mathlib.Omega.{arith}
-use lib.ListN.{length}
 use Rattle.costs.specs.declared.Cost.{Cost}
 use Rattle.costs.specs.Packed.{cost_of}
-use Rattle.window.specs.declared.PackedState.{PackedState}
 use Rattle.window.specs.State.{whole}
 use Rattle.algebra.specs.GasBytes.{gas_bytes}
-use Rattle.astar.specs.Search.{Problem, Succ, Entry, Work, Hand, find, store, push, cut, better, node_of, entry_of, stored, offer}
-use Rattle.heap.specs.declared.Entry.{Entry as Waiting}
+use Rattle.astar.specs.Search.{Problem, Entry, Work, find, store, push, cut, better, node_of, entry_of, stored, offer}
 use Rattle.nodes.specs.declared.Found.{Found}
-use Rattle.nodes.specs.declared.Found.TheVariants.{At, Nothing}
-use Rattle.lists.specs.View.{SearchNode, node_is, nodes_of, queue_of, waits, node_found, Kept, Piled, Sought, Stored, Pushed}
+use Rattle.lists.specs.View.{SearchNode, node_is, nodes_of, queue_of, node_found, Kept, Piled, Sought, Stored, Pushed}
 use Rattle.lists.specs.declared.Node.{Node}
 use Rattle.lists.proofs.Nodes.{there_room}
 use Rattle.offer.specs.Rules.{estimated, bare}

@@ -1,6 +1,6 @@
 -- What the code's values stand for in the definitions of the search.
-use Rattle.std.specs.Prelude.{◌≡◌, Bool, true, false, cond, List, [], ◌∷◌, ℕ, ◌+◌, ◌*◌, ◌≤◌, length}
-use Rattle.std.proofs.Math.Option.{Option, none, some}
+use Rattle.std.specs.Prelude.{◌≡◌, cond, List, ℕ, ◌+◌, ◌*◌, ◌≤◌, length}
+use Rattle.std.proofs.Math.Option.{none, some}
 use Rattle.costs.specs.declared.Cost.{Cost}
 use Rattle.costs.specs.Step.{code_of}
 use Rattle.costs.specs.Packed.{cost_of}
@@ -8,8 +8,8 @@ use Rattle.window.specs.State.{whole}
 use Rattle.algebra.specs.GasBytes.{gas_bytes}
 use Rattle.astar.specs.Search.{Succ, Work, Hand, find, store, better, offer}
 use Rattle.nodes.specs.declared.Found.{Found}
-use Rattle.nodes.specs.declared.Found.TheVariants.{At, Nothing}
-use Rattle.lists.specs.View.{SearchNode, nodes_of, queue_of, node_found, Kept, Piled}
+use Rattle.nodes.specs.declared.Found.TheVariants.{At}
+use Rattle.lists.specs.View.{SearchNode, nodes_of, queue_of, Kept, Piled}
 use Rattle.offer.specs.Rules.{estimated, bare}
 use Rattle.offer.specs.declared.Successor.{Successor}
 use Rattle.offer.specs.declared.Held.{Held}

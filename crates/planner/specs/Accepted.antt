@@ -1,5 +1,5 @@
 -- What an accepted planning may rest on.
-use Rattle.std.specs.Prelude.{ℕ, zero, suc, ◌+◌, ◌*◌, ◌/◌, ◌^◌, ◌≤◌, ◌<◌, max, Bool, true, false, ◌||◌, List, [], ◌∷◌, ◌≡◌, refl, ltb, length, get_or}
+use Rattle.std.specs.Prelude.{ℕ, ◌/◌, ◌≤◌, max, Bool, true, false, ◌||◌, List, [], ◌∷◌, ◌≡◌, ltb, length}
 use Rattle.std.proofs.Common.{ap, sym, subst, ◌∙◌, arith, ltb-false}
 use Rattle.costs.specs.Laws.{or_left, passed, kinds_length}
 use Rattle.costs.specs.Table.{any_over, kinds_fault, prices_fault}

@@ -4,7 +4,6 @@ use Rattle.std.proofs.Common.{ap, ◌∙◌, arith}
 use borrow.Author.Tests.{ne_eqb}
 use Rattle.costs.specs.Choice.{◌if◌otherwise◌}
 use Rattle.costs.specs.Table.{any_over, kinds_fault, prices_fault}
-use Rattle.replay.specs.Machine.{Rules}
 use Rattle.replay.specs.Beneath.{narrowed, Footing, alone}
 use Rattle.replay.specs.Before.{renumbered, remains, rows_long, long_over}
 use Rattle.replay.specs.Replay.{reach_fault}

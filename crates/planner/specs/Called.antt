@@ -1,5 +1,5 @@
 -- What holds of every answer of the planner as its caller gets it: of the fields and of the first `step_count` entries of the step list.
-use Rattle.std.specs.Prelude.{ℕ, zero, suc, ◌+◌, ◌*◌, ◌≤◌, ◌<◌, max, Bool, true, false, List, [], ◌∷◌, ◌≡◌, refl, T, eqb, length, take}
+use Rattle.std.specs.Prelude.{ℕ, zero, suc, ◌+◌, ◌≤◌, max, true, false, List, [], ◌≡◌, refl, eqb, length, take}
 use Rattle.std.proofs.Math.Option.{Option, none, some, some-injective}
 use Rattle.std.proofs.Common.{ap, sym, ◌∙◌, subst, arith, ne_eqb}
 use Rattle.costs.specs.Choice.{◌if◌otherwise◌}
@@ -12,7 +12,7 @@ use Rattle.replay.specs.Replay.{over, replayed}
 use Rattle.replay.specs.Highest.{highest_fits, highest_none}
 use Rattle.marking.specs.Marking.{marked}
 use Rattle.algebra.specs.GasBytes.{gas_bytes}
-use Rattle.astar.specs.Planner.{Found, Answer as Answered}
+use Rattle.astar.specs.Planner.{Found}
 use Rattle.astar.specs.Counted.{planned_in_bounds, planned_still}
 use Rattle.problem.specs.Problem.{problem_of, bounded}
 use Rattle.planner.specs.Refusal.{Asked, Lent, narrow, plan_refusal}

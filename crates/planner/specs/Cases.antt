@@ -1,5 +1,5 @@
 -- The answer by cases, as laws for the code.
-use Rattle.std.specs.Prelude.{ℕ, ◌≤◌, Bool, true, false, cond, not, List, [], ◌∷◌, ◌++◌, ◌≡◌, refl, eqb, length, take, drop}
+use Rattle.std.specs.Prelude.{ℕ, ◌≤◌, Bool, true, false, not, List, [], ◌++◌, ◌≡◌, refl, eqb, length, take, drop}
 use Rattle.std.proofs.Math.Option.{Option, none, some}
 use Rattle.std.proofs.Common.{ap, sym, ◌∙◌, arith, length-take, take-append-drop}
 use borrow.Author.Tests.{ne_eqb}
@@ -10,7 +10,7 @@ use Rattle.replay.specs.Beneath.{narrowed}
 use Rattle.replay.specs.Highest.{highest_none}
 use Rattle.window.specs.Pack.{pack}
 use Rattle.algebra.specs.GasBytes.{gas_bytes}
-use Rattle.astar.specs.Search.{Allowance, begin}
+use Rattle.astar.specs.Search.{begin}
 use Rattle.astar.specs.Planner.{Found, Answer as Answered, given as isGiven, plan_of, searched, planned}
 use Rattle.successors.specs.Successors.{Question}
 use Rattle.problem.specs.Problem.{problem_of}
@@ -22,7 +22,7 @@ use Rattle.incumbent.specs.Hand.{Held, held_of, hand_of}
 use Rattle.incumbent.specs.Laws.{hand_bound, hand_origin, hand_steps}
 use Rattle.incumbent.specs.declared.Hand.{Hand}
 use Rattle.planner.specs.Refusal.{Asked, Lent, narrow, plan_refusal}
-use Rattle.planner.specs.Planned.{question_of, listed, plan_held, before, answered, bare_of, fields_of, refused, steps_with, given, planned_on, planned_for, WorkKept}
+use Rattle.planner.specs.Planned.{question_of, listed, plan_held, before, answered, bare_of, fields_of, refused, given, planned_on, planned_for, WorkKept}
 use Rattle.planner.specs.declared.Answer.{Answer}
 
 -- the plan of no steps

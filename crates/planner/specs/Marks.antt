@@ -1,20 +1,18 @@
 -- A plan that is given, replayed and marked with its own ceiling: it ends at the goal, is marked 0, and its highest window is told alike.
-use Rattle.std.specs.Prelude.{ℕ, ◌+◌, ◌≤◌, max, Bool, false, ◌||◌, List, ◌≡◌, refl, eqb, ltb, length}
+use Rattle.std.specs.Prelude.{ℕ, ◌+◌, ◌≤◌, false, List, ◌≡◌, length}
 use Rattle.std.proofs.Math.Bool.{true}
 use Rattle.std.proofs.Math.Option.{some}
 use Rattle.std.proofs.Math.Path.{ap, sym}
 use Rattle.std.proofs.Common.{◌∙◌, arith, le-ltb}
-use Rattle.costs.specs.Choice.{◌if◌otherwise◌}
 use Rattle.costs.specs.Cost.{no_more}
 use Rattle.costs.specs.Price.{cost_for_steps}
-use Rattle.costs.specs.Table.{any_over, kinds_fault, prices_fault}
 use Rattle.costs.specs.declared.Cost.{Cost}
-use Rattle.replay.specs.Machine.{Rules, Outcome, ends, ran_on, highest}
+use Rattle.replay.specs.Machine.{ends, highest}
 use Rattle.replay.specs.Beneath.{narrowed, narrowed_most}
 use Rattle.replay.specs.Replay.{reach_fault, replayed, replayed_to}
 use Rattle.replay.specs.Laws.{replayed_to_lem}
 use Rattle.replay.specs.Highest.{highest_stands}
-use Rattle.marking.specs.Marking.{are_keys_same, mark_table, mark_refusal, mark_outcome, answer_of, marked_on, marked}
+use Rattle.marking.specs.Marking.{mark_table, mark_refusal, mark_outcome, marked_on, marked}
 use Rattle.marking.specs.Laws.{same_refl, outcome_runs, replays}
 use Rattle.algebra.specs.GasBytes.{gas_bytes, le_is}
 use Rattle.astar.specs.Tests.{T_true}

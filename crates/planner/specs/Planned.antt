@@ -1,5 +1,5 @@
 -- What the planner answers.
-use Rattle.std.specs.Prelude.{ℕ, List, [], ◌∷◌, ◌++◌, ◌≡◌, eqb, length, drop}
+use Rattle.std.specs.Prelude.{ℕ, List, ◌++◌, ◌≡◌, eqb, length, drop}
 use Rattle.std.proofs.Math.Option.{Option, none, some}
 use Rattle.costs.specs.Choice.{◌if◌otherwise◌}
 use Rattle.costs.specs.declared.Cost.{Cost}

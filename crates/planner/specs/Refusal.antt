@@ -3,7 +3,7 @@ use Rattle.std.specs.Prelude.{ℕ, ◌+◌, ◌/◌, max, Bool, ◌||◌, List, 
 use Rattle.std.proofs.Common.{◌∙◌}
 use Rattle.costs.specs.Choice.{◌if◌otherwise◌}
 use Rattle.costs.specs.Table.{any_over, kinds_fault, prices_fault}
-use Rattle.replay.specs.Machine.{Rules, above}
+use Rattle.replay.specs.Machine.{Rules}
 use Rattle.replay.specs.Beneath.{narrowed, too_tall, window_above, Footing, footing}
 use Rattle.replay.specs.Replay.{reach_fault}
 use Rattle.astar.specs.Search.{Allowance}

@@ -1,5 +1,5 @@
 -- Demand 2, the plan's part: a plan that is given replays from start to goal, within reaches and window, and is marked 0 at its own ceiling.
-use Rattle.std.specs.Prelude.{ℕ, suc, ◌+◌, ◌*◌, ◌≤◌, ◌<◌, max, Bool, true, false, cond, not, ◌⊎◌, ◌≡◌, refl, T, eqb}
+use Rattle.std.specs.Prelude.{ℕ, suc, ◌≤◌, max, Bool, true, false, ◌≡◌, refl, T, eqb}
 use mathlib.Core.List.{List, [], ◌∷◌}
 use Rattle.std.proofs.Common.{inl, inr, sym, ◌∙◌, le_refl, eqb→eq}
 use Rattle.std.proofs.Math.Logic.{⊎_elim}
@@ -8,31 +8,27 @@ use Rattle.std.proofs.Math.Path.{ap, subst}
 use native.Mathlib.Omega.{arith}
 use Rattle.std.proofs.Math.ListN.{length, length-map}
 use Rattle.costs.specs.Choice.{◌if◌otherwise◌}
-use Rattle.costs.specs.Cost.{no_more, plus}
-use Rattle.costs.specs.Price.{price_of, cost_from, cost_for_steps}
-use Rattle.costs.specs.Step.{decoded}
-use Rattle.costs.specs.Table.{kinds_fault}
+use Rattle.costs.specs.Cost.{plus}
+use Rattle.costs.specs.Price.{cost_from, cost_for_steps}
 use Rattle.costs.specs.declared.Cost.{Cost}
-use Rattle.replay.specs.Machine.{Rules, Outcome, ends, ran_on}
-use Rattle.window.specs.Pack.{pack, Keys}
+use Rattle.replay.specs.Machine.{ends, ran_on}
+use Rattle.window.specs.Pack.{pack}
 use Rattle.window.specs.Laws.{pack_inj}
 use Rattle.algebra.specs.GasBytes.{gas_bytes, sum_is, domain_fits}
-use Rattle.astar.specs.Search.{Problem, Succ, Allowance, Search, Result, Node, begin, enough, run, read_back}
+use Rattle.astar.specs.Search.{Problem, Allowance, Search, Node, enough, run, read_back}
 use Rattle.astar.specs.Turns.{Reach, here}
 use Rattle.astar.specs.Tests.{by_cond}
-use Rattle.astar.specs.Again.{◌⊑◌}
-use Rattle.astar.specs.Fuel.{Done, search_ends}
+use Rattle.astar.specs.Fuel.{search_ends}
 use Rattle.astar.specs.Room.{Bounded}
-use Rattle.astar.specs.Walk.{steps}
 use Rattle.astar.specs.Plans.{Route, plan_source}
-use Rattle.astar.specs.Planner.{Found, Answer as Answered, given, sum_steps, read_at, plan_at, plan_of, first, answer_of, searched, planned}
+use Rattle.astar.specs.Planner.{Found, Answer as Answered, given, sum_steps, read_at, plan_at, plan_of, first, searched, planned}
 use Rattle.problem.specs.Problem.{problem_of, bounded}
 use Rattle.problem.specs.Replays.{walk_replays}
-use Rattle.incumbent.specs.Hand.{Held, in_hand}
+use Rattle.incumbent.specs.Hand.{Held}
 use Rattle.incumbent.specs.Theorems as builder
-use Rattle.planner.specs.Refusal.{Asked, Lent, plan_refusal}
+use Rattle.planner.specs.Refusal.{Asked, Lent}
 use Rattle.planner.specs.Planned.{question_of, listed, plan_held, before, answered}
-use Rattle.planner.specs.Accepted.{Accepted, accepted, bounds, keys_below, start_window, goal_window}
+use Rattle.planner.specs.Accepted.{Accepted, bounds, keys_below, start_window, goal_window}
 use Rattle.planner.specs.Steady.{steady_answers}
 
 -- a plan leads from start to goal, costs what its steps are listed at, and has a place for each step

@@ -1,6 +1,6 @@
 -- Demand 3: what two answers to one question have to do with each other, of their fields and step lists as callers hold them.
-use Rattle.std.specs.Prelude.{ℕ, zero, suc, ◌+◌, ◌*◌, ◌≤◌, ◌<◌, Bool, true, false, List, [], ◌∷◌, ◌++◌, ◌⊎◌, ◌≡◌, refl, T, eqb, length, take, drop}
-use Rattle.std.proofs.Common.{inl, inr, ap, sym, ◌∙◌, subst, arith, ne_eqb, take_at}
+use Rattle.std.specs.Prelude.{ℕ, zero, suc, Bool, true, false, List, [], ◌≡◌, refl, T, eqb, length, take, drop}
+use Rattle.std.proofs.Common.{ap, sym, ◌∙◌, subst, arith, ne_eqb, take_at}
 use Rattle.std.proofs.Math.Option.{Option, none, some, some-injective}
 use Rattle.costs.specs.Choice.{◌if◌otherwise◌}
 use Rattle.costs.specs.Cost.{no_more}

@@ -1,19 +1,17 @@
 -- A walk of the problem is a plan that replays, and costs what its steps are listed at.
-use Rattle.std.specs.Prelude.{ℕ, zero, suc, ◌+◌, ◌*◌, ◌^◌, ◌≤◌, ◌<◌, min, ◌≡◌, refl, Bool, true, false, ◌&&◌, ◌||◌, ltb, eqb, length, get_or}
-use Rattle.std.proofs.Common.{sym, ◌∙◌, arith, ltb-true}
+use Rattle.std.specs.Prelude.{ℕ, suc, ◌≤◌, ◌<◌, ◌≡◌, refl, true, ◌&&◌, ◌||◌, ltb, eqb, length, get_or}
+use Rattle.std.proofs.Common.{◌∙◌, arith, ltb-true}
 use Rattle.std.proofs.Math.Path.{ap, subst}
-use mathlib.Core.List.{List, [], ◌∷◌, map, Memᴰ}
-use Rattle.std.proofs.Math.Option.{Option, none, some}
-use Rattle.costs.specs.Choice.{◌if◌otherwise◌}
+use mathlib.Core.List.{List, [], ◌∷◌, Memᴰ}
+use Rattle.std.proofs.Math.Option.{Option, some}
 use Rattle.costs.specs.declared.Cost.{Cost}
 use Rattle.costs.specs.declared.Step.{Step}
 use Rattle.costs.specs.declared.Step.TheVariants.{Pop, Dup, Swap, PushImm, LoadVal}
-use Rattle.costs.specs.declared.Decoded.TheVariants.{Known}
-use Rattle.costs.specs.Cost.{capped, plus}
-use Rattle.costs.specs.Price.{price_of, cost_from, cost_for_steps}
-use Rattle.costs.specs.Step.{code_of, decoded}
+use Rattle.costs.specs.Cost.{plus}
+use Rattle.costs.specs.Price.{price_of, cost_from}
+use Rattle.costs.specs.Step.{decoded}
 use Rattle.costs.specs.Laws.{OperandFits, decoded_code}
-use Rattle.replay.specs.Machine.{Rules, Outcome, ends, room, immediate, value, allows, after, step_on, onward, ran_on}
+use Rattle.replay.specs.Machine.{Rules, ends, room, immediate, value, allows, after, step_on, ran_on}
 use Rattle.replay.specs.Laws.{and_left, and_right, after_fits}
 use Rattle.window.specs.Pack.{pack, Keys}
 use Rattle.window.specs.Laws.{pack_inj}

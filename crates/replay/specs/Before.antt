@@ -8,7 +8,6 @@ use Rattle.costs.specs.Table.{any_over, kinds_fault}
 use Rattle.replay.specs.Machine.{Rules}
 use Rattle.replay.specs.Beneath.{too_tall, Footing, footing, alone, footing_none, long_tall}
 use Rattle.replay.specs.Replay.{reach_fault, replay_table, replay_refusal, outcome_on, no_replay, replayed_on, replayed}
-use Rattle.replay.specs.declared.Replayed.{Replayed}
 
 -- ---- any call
 

@@ -8,7 +8,7 @@ use Rattle.costs.specs.Step.{decoded}
 use Rattle.costs.specs.declared.Step.{Step}
 use Rattle.costs.specs.declared.Decoded.{Decoded}
 use Rattle.costs.specs.declared.Decoded.TheVariants.{Known, Unknown}
-use Rattle.replay.specs.Machine.{Rules, allows, after, step_on, onward, ran_on, Outcome, stops, ends, onto, passes, tallest, highest}
+use Rattle.replay.specs.Machine.{Rules, allows, after, step_on, onward, ran_on, ends, onto, passes, tallest, highest}
 use Rattle.replay.specs.Beneath.{narrowed, too_tall, tall_sum, narrowed_stands}
 use Rattle.replay.specs.Laws.{after_fits}
 use Rattle.replay.specs.Steps.{length_after, length_after_lem}

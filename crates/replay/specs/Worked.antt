@@ -1,8 +1,8 @@
 -- Worked examples, computed by the definitions.
-use Rattle.std.specs.Prelude.{ℕ, ◌+◌, List, [], ◌∷◌, ◌++◌, ◌≡◌, refl, replicate}
+use Rattle.std.specs.Prelude.{ℕ, List, [], ◌∷◌, ◌++◌, ◌≡◌, refl, replicate}
 use Rattle.costs.specs.Step.{decoded}
 use Rattle.costs.specs.Table.{kinds_fault}
-use Rattle.replay.specs.Machine.{Rules, plain_rules, above, room, immediate, value, allows, after, ran_on, passes, highest, popped_on}
+use Rattle.replay.specs.Machine.{plain_rules, above, room, immediate, value, allows, after, ran_on, passes, highest, popped_on}
 use Rattle.replay.specs.Beneath.{too_tall, window_above}
 use Rattle.replay.specs.Replay.{reach_fault, replay_table, outcome_on, replayed}
 

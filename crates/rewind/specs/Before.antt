@@ -1,5 +1,5 @@
 -- Old answers remain (request U3): with nothing beneath the window, stepping back answers as request U2 has it, its number, length and list.
-use Rattle.std.specs.Prelude.{ℕ, suc, ◌<◌, ◌≤◌, Bool, true, ◌||◌, List, ◌≡◌, ltb, length}
+use Rattle.std.specs.Prelude.{ℕ, suc, ◌<◌, ◌≤◌, true, ◌||◌, List, ◌≡◌, ltb, length}
 use Rattle.std.proofs.Common.{arith}
 use borrow.Author.Tests.{ne_eqb}
 use Rattle.costs.specs.Choice.{◌if◌otherwise◌}

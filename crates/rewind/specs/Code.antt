@@ -1,5 +1,5 @@
 -- The walk as the code goes it: the steps left are a first part of the steps, the keys left a first part of the popped keys.
-use Prim.Native.Nat.{ℕ, zero, suc, ◌+◌, ◌-◌, ◌<◌, ◌≤◌}
+use Prim.Native.Nat.{ℕ, zero, suc, ◌-◌, ◌<◌, ◌≤◌}
 use Rattle.std.specs.Prelude.{◌&&◌, List, [], ◌∷◌, ◌++◌, reverse, ◌≡◌, get_or, take, drop}
 use Rattle.std.proofs.lemmas.List.{reverse-append}
 use Rattle.std.proofs.Math.Option.{Option, none, some}

@@ -1,25 +1,23 @@
 -- A pass of the loop is a turn.
 use mathlib.Core.Path.{◌≡◌, refl, sym, ap, ap₂, ◌∙◌, subst}
-use mathlib.Core.Bool.{Bool, true, false, cond, not, ◌&&◌, ◌||◌}
-use mathlib.Core.List.{List, [], ◌∷◌, Memᴰ}
+use mathlib.Core.Bool.{Bool, true, false, cond, ◌||◌}
+use mathlib.Core.List.{List, [], Memᴰ}
 use mathlib.Core.Option.{Option, none, some}
-use Prim.Native.Nat.{ℕ, suc, ◌+◌, ◌-◌, ◌*◌, ◌≤◌, ◌<◌}
+use Prim.Native.Nat.{ℕ, ◌+◌, ◌-◌, ◌*◌, ◌≤◌, ◌<◌}
 use native.Mathlib.Numerals.{add-one}
 use native.Mathlib.Omega.{arith}
 use borrow.Author.Tests.{le-leb, lt-leb}
-use lib.Dec.{leb, ltb, eqb}
+use lib.Dec.{ltb, eqb}
 use lib.ListN.{length}
 use Rattle.costs.specs.declared.Cost.{Cost}
 use Rattle.costs.specs.Packed.{cost_of}
 use Rattle.window.specs.declared.PackedState.{PackedState}
-use Rattle.window.specs.Pack.{pack}
 use Rattle.window.specs.State.{whole}
 use Rattle.window.specs.Keys.{keys_of}
 use Rattle.algebra.specs.GasBytes.{gas_bytes}
 use Rattle.astar.specs.Cost.{same}
-use Rattle.astar.specs.Search.{Problem, Succ, Allowance, Ending, drained, cutOff, states, expansions, number, Entry, Work, Hand, Search, find, entry_of, step_of, cut, record_goal, offers, over, without, expanded, turn, stop, go, Turn}
+use Rattle.astar.specs.Search.{Problem, Succ, Allowance, Ending, drained, cutOff, states, expansions, number, Entry, Work, Hand, Search, find, entry_of, step_of, cut, record_goal, offers, over, without, turn, stop, go, Turn}
 use Rattle.astar.specs.Turns.{Reach, here}
-use Rattle.astar.specs.Again.{Ends}
 use Rattle.astar.specs.Rows.{length_rows}
 use Rattle.astar.specs.Valid.{AllValid, first_valid, go_valid}
 use Rattle.astar.specs.Branch.{turn_drained, turn_lost, turn_stale, turn_goal, turn_cut, turn_states, turn_expansions, turn_expands, reach_on}
@@ -41,7 +39,6 @@ use Rattle.search.specs.View.{rules_of, all_offered, IsWindow, Awaits, origin_of
 use Rattle.run.specs.View.{problem_for, allowance, search_of, Roomy, Ran}
 use Rattle.run.specs.declared.Ask.{Ask}
 use Rattle.run.specs.declared.Limits.{Limits}
-use Rattle.run.specs.declared.Left.{Left}
 use Rattle.run.proofs.Laws.{same_true, same_false, not_over, offers_any}
 
 -- every successor of a window is a window

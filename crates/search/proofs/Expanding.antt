@@ -1,34 +1,32 @@
 -- The parts of the table, and an expansion as a whole.
 use mathlib.Core.Path.{◌≡◌, refl, sym, ap, ap₂, ◌∙◌, subst}
 use mathlib.Core.List.{List, [], ◌∷◌, map}
-use Prim.Native.Nat.{ℕ, zero, suc, ◌+◌, ◌-◌, ◌*◌, ◌/◌, ◌≤◌, ◌<◌, min}
+use Prim.Native.Nat.{ℕ, zero, suc, ◌+◌, ◌-◌, ◌/◌, ◌≤◌, ◌<◌}
 use native.Mathlib.Omega.{arith}
-use lib.ListN.{length, get_or, take, drop, length-take, length-drop}
+use lib.ListN.{length, get_or, take, drop, length-take}
 use Rattle.costs.specs.declared.Cost.{Cost}
 use Rattle.costs.specs.declared.Step.{Step}
 use Rattle.costs.specs.declared.Decoded.{Decoded}
-use Rattle.costs.specs.declared.Decoded.TheVariants.{Known}
 use Rattle.costs.specs.Packed.{cost_of}
-use Rattle.costs.specs.Step.{code_of, decoded}
+use Rattle.costs.specs.Step.{code_of}
 use Rattle.costs.specs.Laws.{decoded_code}
 use Rattle.window.specs.declared.PackedState.{PackedState}
-use Rattle.window.specs.Pack.{Keys, pack}
 use Rattle.window.specs.State.{Held as Holds, whole}
 use Rattle.window.specs.Keys.{keys_of, Window, keys_length, held_keys}
 use Rattle.astar.specs.Pairs.{sat}
 use Rattle.astar.specs.Search.{Succ, Work}
 use Rattle.successors.specs.Parts.{All}
-use Rattle.successors.specs.Successors.{Question, firsts, steps_from}
+use Rattle.successors.specs.Successors.{Question, steps_from}
 use Rattle.successors.specs.Limits.{Bounds, Fine, steps_fine}
 use Rattle.successors.specs.Whole.{asked, Expandable, Expanded}
 use Rattle.heuristic.specs.Heuristic.{sum_to, key_term, estimate, heuristic_of}
 use Rattle.heuristic.specs.Counts.{Counted}
 use Rattle.heuristic.specs.Steady.{Cheap, cheap}
-use Rattle.problem.specs.Problem.{edge, edges_from, problem_of}
+use Rattle.problem.specs.Problem.{edge, edges_from}
 use Rattle.problem.specs.Replays.{operand_fits}
 use Rattle.moves.specs.Moves.{Asking, Parent}
 use Rattle.moves.specs.Codes.{Coded, expansion_coded}
-use Rattle.offer.specs.View.{work_of, Now}
+use Rattle.offer.specs.View.{Now}
 use Rattle.offer.specs.declared.Held.{Held}
 use Rattle.offer.specs.declared.Origin.{Origin}
 use Rattle.offer.specs.declared.Sizes.{Sizes}

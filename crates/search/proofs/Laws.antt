@@ -1,40 +1,36 @@
 -- A step's code, the successor it leads to, and the offering of all of them.
-use mathlib.Core.Path.{◌≡◌, refl, sym, ap, ap₂, ◌∙◌, subst}
+use mathlib.Core.Path.{◌≡◌, refl, sym, ap, ◌∙◌}
 use mathlib.Core.List.{List, [], ◌∷◌, ◌++◌, map}
-use mathlib.Core.Option.{Option, none, some}
-use Prim.Native.Nat.{ℕ, zero, suc, ◌+◌, ◌-◌, ◌*◌, ◌≤◌, ◌<◌}
+use Prim.Native.Nat.{ℕ, ◌+◌, ◌*◌, ◌≤◌, ◌<◌}
 use native.Mathlib.Numerals.{add-one}
 use native.Mathlib.Omega.{arith}
-use lib.ListN.{length, get_or, take, drop}
+use lib.ListN.{length, get_or, take}
 use lib.Seq.{take-suc}
 use Rattle.costs.specs.declared.Cost.{Cost}
 use Rattle.costs.specs.declared.Step.{Step}
 use Rattle.costs.specs.declared.Step.TheVariants.{Pop, Dup, Swap, PushImm, LoadVal}
 use Rattle.costs.specs.declared.Decoded.{Decoded}
-use Rattle.costs.specs.declared.Decoded.TheVariants.{Known, Unknown}
+use Rattle.costs.specs.declared.Decoded.TheVariants.{Known}
 use Rattle.costs.specs.Step.{code_of, decoded}
 use Rattle.costs.specs.Laws.{OperandFits, decoded_code}
 use Rattle.costs.specs.Packed.{cost_of}
 use Rattle.replay.specs.Machine.{after}
 use Rattle.window.specs.declared.PackedState.{PackedState}
-use Rattle.window.specs.Pack.{Keys, pack}
 use Rattle.window.specs.State.{whole}
 use Rattle.window.specs.Keys.{keys_of, keys_length}
-use Rattle.window.specs.Decode.{decode_pack}
 use Rattle.algebra.specs.GasBytes.{gas_bytes}
 use Rattle.astar.specs.Search.{Succ, Work, offer, offers, step_of}
 use Rattle.astar.specs.Places.{offers_snoc}
 use Rattle.successors.specs.Parts.{map_append}
-use Rattle.successors.specs.Successors.{Question, price_by, depth_of}
-use Rattle.heuristic.specs.Heuristic.{heuristic_of}
+use Rattle.successors.specs.Successors.{Question, depth_of}
 use Rattle.problem.specs.Problem.{edge, depth_of_code, depth_of_code_lem, problem_of, est_window}
-use Rattle.moves.specs.Moves.{Doable, Told, state_of}
+use Rattle.moves.specs.Moves.{Doable, Told}
 use Rattle.moves.specs.Codes.{Coded}
 use Rattle.moves.specs.declared.Move.{Move}
 use Rattle.lists.specs.View.{parent_is, Kept, Piled}
 use Rattle.lists.specs.declared.Parent.{Parent}
 use Rattle.lists.specs.declared.Parent.TheVariants.{Start, By}
-use Rattle.offer.specs.Rules.{Rules, coded, estimated}
+use Rattle.offer.specs.Rules.{estimated}
 use Rattle.offer.specs.View.{succ_of, hand_of, work_of, Now, offered}
 use Rattle.offer.specs.declared.Held.{Held}
 use Rattle.offer.specs.declared.Origin.{Origin}

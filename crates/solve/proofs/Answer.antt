@@ -3,7 +3,7 @@ use mathlib.Core.Path.{◌≡◌, refl, sym, ap, ap₂, ◌∙◌, subst}
 use mathlib.Core.Bool.{Bool, true, false, cond}
 use mathlib.Core.List.{List, [], ◌∷◌}
 use mathlib.Core.Option.{Option, none, some, bind}
-use Prim.Native.Nat.{ℕ, zero, suc, ◌+◌, ◌-◌, ◌*◌, ◌≤◌, ◌<◌}
+use Prim.Native.Nat.{ℕ, zero, suc, ◌-◌, ◌≤◌}
 use native.Mathlib.Omega.{arith}
 use lib.Dec.{eqb}
 use lib.ListN.{length, take, drop}
@@ -15,7 +15,7 @@ use Rattle.window.specs.declared.PackedState.{PackedState}
 use Rattle.window.specs.Pack.{pack}
 use Rattle.window.specs.State.{Held as Holds, whole}
 use Rattle.algebra.specs.GasBytes.{gas_bytes, sum_is, domain_fits}
-use Rattle.astar.specs.Search.{Problem, Hand, Search, Ending, number, find, parent_in, read_back, begin}
+use Rattle.astar.specs.Search.{Problem, Hand, Search, Ending, number, find, parent_in, read_back}
 use Rattle.astar.specs.Again.{Ends}
 use Rattle.astar.specs.Room.{Bounded}
 use Rattle.astar.specs.Sound.{Good}
@@ -29,18 +29,18 @@ use Rattle.successors.specs.Limits.{Bounds}
 use Rattle.successors.specs.Whole.{asked}
 use Rattle.problem.specs.Problem.{problem_of, bounded}
 use Rattle.lists.specs.View.{SearchNode}
-use Rattle.offer.specs.Rules.{Rules, coded, bare}
+use Rattle.offer.specs.Rules.{Rules, coded}
 use Rattle.offer.specs.View.{hand_of}
 use Rattle.search.specs.View.{rules_of, IsWindow}
 use Rattle.run.specs.View.{problem_for, allowance}
 use Rattle.run.specs.declared.Ask.{Ask}
 use Rattle.run.specs.declared.Limits.{Limits}
 use Rattle.run.specs.declared.Left.{Left}
-use Rattle.back.specs.Back.{plan, ReadBack}
+use Rattle.back.specs.Back.{plan}
 use Rattle.back.specs.declared.Back.{Back}
 use Rattle.back.specs.declared.Back.TheVariants.{Steps, Lost}
 use Rattle.replay.specs.declared.SearchCfg.{SearchCfg}
-use Rattle.table.specs.Table.{Accepted, Prepared}
+use Rattle.table.specs.Table.{Prepared}
 use Rattle.search.specs.Table.{question_of}
 use Rattle.search.specs.declared.Setup.{Setup}
 use Rattle.solve.specs.View.{first_of, StepsRead, Placed, outcome_of, priced_by, told, Planned, SearchedFor, Searched, StartFits}

@@ -1,53 +1,47 @@
 -- The first search, and the whole of one.
-use mathlib.Core.Path.{◌≡◌, refl, sym, ap, ap₂, ◌∙◌, subst}
-use mathlib.Core.Bool.{Bool, true, false, cond}
+use mathlib.Core.Path.{◌≡◌, refl, sym, ap, ◌∙◌, subst}
+use mathlib.Core.Bool.{Bool, true, false}
 use mathlib.Core.List.{List, [], ◌∷◌}
-use mathlib.Core.Option.{Option, none, some}
-use Prim.Native.Nat.{ℕ, zero, suc, ◌+◌, ◌-◌, ◌*◌, ◌≤◌, ◌<◌}
+use mathlib.Core.Option.{Option, none}
+use Prim.Native.Nat.{ℕ, ◌≤◌, ◌<◌}
 use native.Mathlib.Omega.{arith}
-use lib.ListN.{length, take, drop}
+use lib.ListN.{length}
 use Rattle.costs.specs.declared.Cost.{Cost}
 use Rattle.costs.specs.Cost.{none as no-cost}
 use Rattle.costs.specs.Packed.{cost_of}
 use Rattle.window.specs.declared.PackedState.{PackedState}
 use Rattle.window.specs.Decode.{decode}
 use Rattle.window.specs.State.{whole}
-use Rattle.window.specs.Keys.{keys_of, Window}
+use Rattle.window.specs.Keys.{keys_of}
 use Rattle.algebra.specs.GasBytes.{gas_bytes}
 use Rattle.astar.specs.Pairs.{sat, sat_exact}
-use Rattle.astar.specs.Search.{Entry, Work, Hand, Search, find, store, push, begin}
-use Rattle.astar.specs.Again.{Ends}
+use Rattle.astar.specs.Search.{Entry, Work, Search, find, store, push, begin}
 use Rattle.astar.specs.Rows.{rows}
 use Rattle.astar.specs.Places.{once_none}
 use Rattle.astar.specs.Valid.{AllValid}
 use Rattle.heap.specs.Heap.{sort}
-use Rattle.heap.specs.declared.Entry.{Entry as Waiting}
 use Rattle.nodes.specs.Nodes.{lookup, rows as newest}
-use Rattle.nodes.specs.declared.Found.{Found}
-use Rattle.nodes.specs.declared.Found.TheVariants.{At, Nothing}
+use Rattle.nodes.specs.declared.Found.TheVariants.{Nothing}
 use Rattle.nodes.proofs.Lemmas.{chained_empty}
 use Rattle.successors.specs.Successors.{Question}
 use Rattle.heuristic.specs.Heuristic.{heuristic_of}
 use Rattle.heuristic.specs.Steady.{estimate_fits}
-use Rattle.problem.specs.Problem.{problem_of}
 use Rattle.moves.specs.Moves.{Parent}
 use Rattle.moves.specs.Told.{cost_is}
 use Rattle.lists.specs.View.{SearchNode, node_is, nodes_of, queue_of, waits, blank, Kept, Piled, Sought, Stored, Pushed}
 use Rattle.lists.specs.declared.Node.{Node}
-use Rattle.offer.specs.View.{hand_of, work_of, Now}
+use Rattle.offer.specs.View.{work_of}
 use Rattle.offer.specs.declared.Sizes.{Sizes}
-use Rattle.offer.specs.declared.Held.{Held}
-use Rattle.search.specs.Table.{want_in, goal_in, question_of, Ready}
+use Rattle.search.specs.Table.{want_in, goal_in, question_of}
 use Rattle.search.specs.View.{IsWindow, Awaits}
 use Rattle.search.specs.declared.Setup.{Setup}
-use Rattle.run.specs.View.{problem_for, allowance, search_of, Roomy, Ran}
+use Rattle.run.specs.View.{search_of, Roomy, Ran}
 use Rattle.run.specs.declared.Ask.{Ask}
 use Rattle.run.specs.declared.Limits.{Limits}
 use Rattle.run.specs.declared.Left.{Left}
 use Rattle.back.specs.Back.{ReadBack}
 use Rattle.back.specs.declared.Back.{Back}
 use Rattle.back.specs.declared.Back.TheVariants.{Lost}
-use Rattle.solve.specs.declared.Planning.{Planning}
 use Rattle.solve.specs.View.{estimate_in, first_node, first_of, Begun, StepsRead, Planned}
 
 -- ---- lists in which nothing is trusted yet

@@ -1,30 +1,30 @@
 -- What holds of every run of the search of a question, whatever its prices are within the list's limits, 0 among them.
 use Rattle.std.specs.Prelude.{◌≡◌, refl, Bool, false, ℕ, suc, ◌+◌, ◌*◌, ◌≤◌, max, T, length}
-use Rattle.std.proofs.Common.{sym, ap, ap₂, ◌∙◌, subst, arith, mul-le-mul_left}
+use Rattle.std.proofs.Common.{ap, subst, arith}
 use mathlib.Core.List.{List, [], ◌∷◌, Memᴰ}
-use Rattle.std.proofs.Math.Option.{Option, none, some}
+use Rattle.std.proofs.Math.Option.{Option, some}
 use Rattle.costs.specs.declared.Cost.{Cost}
 use Rattle.costs.specs.Cost.{none as no-cost}
 use Rattle.costs.specs.Price.{cost_for_steps}
 use Rattle.costs.specs.Table.{prices_fault}
-use Rattle.window.specs.Pack.{Keys, pack}
+use Rattle.window.specs.Pack.{pack}
 use Rattle.window.specs.Decode.{decode}
 use Rattle.replay.specs.Machine.{ends, ran_on}
 use Rattle.algebra.specs.GasBytes.{gas_bytes, domain_fits}
-use Rattle.astar.specs.Pairs.{sat, sat_exact}
-use Rattle.astar.specs.Search.{Problem, Succ, Allowance, Ending, Search, Entry, Node, Result, find, begin, enough, run, read_back}
+use Rattle.astar.specs.Pairs.{sat_exact}
+use Rattle.astar.specs.Search.{Problem, Succ, Allowance, Search, Entry, Node, find, begin, enough, run, read_back}
 use Rattle.astar.specs.Turns.{Reach}
 use Rattle.astar.specs.Room.{Bounded, Within, reach_within, begin_within}
 use Rattle.astar.specs.Fuel.{Done, search_ends}
 use Rattle.astar.specs.Sound.{Good}
 use Rattle.astar.specs.Hold.{reach_good, begin_good}
 use Rattle.astar.specs.Back.{Plan, reads_back}
-use Rattle.astar.specs.Walk.{Distinct, tos, steps, sum_onto}
+use Rattle.astar.specs.Walk.{Distinct, tos, steps}
 use Rattle.astar.specs.Valid.{AllValid, reach_valid, begin_valid}
 use Rattle.successors.specs.Successors.{Question}
 use Rattle.successors.specs.Limits.{Bounds}
 use Rattle.heuristic.specs.Heuristic.{heuristic_of, estimate, least_dup}
-use Rattle.heuristic.specs.Steady.{Cheap, cheap, small}
+use Rattle.heuristic.specs.Steady.{cheap, small}
 use Rattle.problem.specs.Problem.{problem_of, bounded, decode_length}
 use Rattle.problem.specs.Replays.{Led, successor_led, walk_replays, walk_costs}
 use Rattle.search.specs.View.{IsWindow}

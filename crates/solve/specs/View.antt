@@ -1,5 +1,5 @@
 -- What a whole search answers, as the definition's planner has it.
-use Rattle.std.specs.Prelude.{◌≡◌, Bool, true, false, cond, List, [], ◌∷◌, ℕ, ◌+◌, ◌*◌, ◌≤◌, ◌<◌, length, take, drop}
+use Rattle.std.specs.Prelude.{◌≡◌, Bool, true, false, cond, List, [], ℕ, ◌≤◌, length, take, drop}
 use Rattle.std.proofs.Math.Option.{Option, none, some}
 use Rattle.costs.specs.declared.Cost.{Cost}
 use Rattle.costs.specs.Cost.{none as no-cost}
@@ -10,7 +10,7 @@ use Rattle.window.specs.declared.PackedState.{PackedState}
 use Rattle.window.specs.Pack.{Keys}
 use Rattle.window.specs.State.{whole}
 use Rattle.algebra.specs.GasBytes.{gas_bytes}
-use Rattle.astar.specs.Search.{Allowance, Ending, number, Work, Hand, Search, begin}
+use Rattle.astar.specs.Search.{Ending, number, Search, begin}
 use Rattle.astar.specs.Again.{Ends}
 use Rattle.astar.specs.Planner.{Found, Answer, given, searched}
 use Rattle.successors.specs.Successors.{Question}
@@ -18,7 +18,7 @@ use Rattle.problem.specs.Problem.{problem_of}
 use Rattle.lists.specs.View.{SearchNode}
 use Rattle.offer.specs.View.{hand_of, Now}
 use Rattle.offer.specs.declared.Sizes.{Sizes}
-use Rattle.run.specs.View.{problem_for, allowance, Ran}
+use Rattle.run.specs.View.{problem_for, allowance}
 use Rattle.run.specs.declared.Ask.{Ask}
 use Rattle.run.specs.declared.Limits.{Limits}
 use Rattle.run.specs.declared.Left.{Left}

@@ -1,7 +1,7 @@
 -- The lists of slots by key, as the arrays `head` and `next` hold them: what `pick` does to them.
 use Rattle.std.specs.Prelude.{◌≡◌, Bool, true, false, List, [], ◌∷◌, ℕ, zero, suc, ◌+◌, ◌≤◌, ◌<◌, eqb, length, set}
 use Rattle.std.proofs.Math.Path.{refl, subst⁻¹}
-use Rattle.std.proofs.Common.{sym, ap, ap₂, subst, ◌∙◌, add-one, arith, get_or-set_same, get_or-set_other}
+use Rattle.std.proofs.Common.{sym, ap, ap₂, ◌∙◌, add-one, arith, get_or-set_same, get_or-set_other}
 use Rattle.std.proofs.Math.Decide.{ℕ_discrete}
 use Rattle.star_swap.specs.Count.{Test, equal, unequal, test}
 use Rattle.star_swap.specs.Star.{at, Pick, nothing, arc, pick_if, pick, trail}

@@ -1,12 +1,12 @@
 -- Keys without an arc: their circuits are empty.
-use Rattle.std.specs.Prelude.{◌≡◌, refl, Bool, true, false, not, ◌||◌, List, [], ◌∷◌, ◌++◌, eqb, length, take}
+use Rattle.std.specs.Prelude.{◌≡◌, refl, Bool, true, false, not, ◌||◌, List, [], ◌++◌, eqb, length, take}
 use Rattle.std.proofs.Common.{sym, ap, ◌∙◌, add-one, eqb-true}
-use Prim.Native.Nat.{ℕ, zero, suc, ◌+◌, ◌*◌, ◌-◌, ◌≤◌, ◌<◌}
+use Prim.Native.Nat.{ℕ, zero, suc, ◌+◌, ◌*◌, ◌≤◌, ◌<◌}
 use native.Mathlib.Omega.{arith}
 use Rattle.std.proofs.Math.Decide.{ℕ_discrete}
 use Rattle.std.proofs.lemmas.Bool.{not-false}
-use Rattle.star_swap.specs.Star.{at, Pick, nothing, arc, pick, entered, Trail, trail, trail_step, trail_loop, circuits, star_swaps, codes}
-use Rattle.star_swap.specs.Chain.{Chained, Read, ended, found, read}
+use Rattle.star_swap.specs.Star.{at, Pick, nothing, arc, pick, trail, trail_step, trail_loop, circuits, star_swaps, codes}
+use Rattle.star_swap.specs.Chain.{Chained, Read, found, read}
 use Rattle.star_swap.specs.StarCode.{Pair}
 use Rattle.star_swap.specs.StarLoop.{StarInv}
 

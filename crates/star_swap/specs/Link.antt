@@ -1,9 +1,9 @@
 -- How the lists of slots by key are made, from the last slot up.
 use Rattle.std.specs.Prelude.{◌≡◌, Bool, true, false, eqb, drop, replicate}
 use Rattle.std.proofs.Math.Path.{refl, subst⁻¹}
-use Rattle.std.proofs.Common.{sym, subst, ◌∙◌, arith, length-set, drop_of_length-le, get_or-set_same, get_or-set_other}
+use Rattle.std.proofs.Common.{sym, ◌∙◌, arith, length-set, drop_of_length-le, get_or-set_same, get_or-set_other}
 use mathlib.Core.List.{List, [], ◌∷◌}
-use Prim.Native.Nat.{ℕ, suc, ◌-◌, ◌≤◌, ◌<◌}
+use Prim.Native.Nat.{ℕ, suc, ◌≤◌, ◌<◌}
 use Rattle.std.proofs.Math.Decide.{ℕ_discrete}
 use Rattle.std.proofs.Math.ListN.{length, set}
 use Rattle.std.proofs.lemmas.List.{get_or-replicate}

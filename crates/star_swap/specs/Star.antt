@@ -1,7 +1,7 @@
 -- Star-swap (document 01, "A bound before the search"): a misplaced slot is an arc from the key that the goal has there to the key that stands
 -- there. A trail from the key on top walks what arcs it can; what is left are circuits, by rising key, each begun and ended at its last slot. A slot
 -- is a position of at least 1.
-use Rattle.std.specs.Prelude.{Bool, true, false, List, [], ◌∷◌, ◌++◌, map, ℕ, zero, suc, ◌+◌, ◌*◌, eqb, length, get_or, set}
+use Rattle.std.specs.Prelude.{Bool, true, false, List, [], ◌∷◌, ◌++◌, map, ℕ, zero, suc, ◌*◌, eqb, length, get_or, set}
 use Rattle.costs.specs.Step.{code_of}
 use Rattle.costs.specs.declared.Step.TheVariants.{Swap}
 

@@ -1,5 +1,5 @@
 -- What star-swap's answer is worth, and the starred questions of document 01.
-use Rattle.std.specs.Prelude.{ℕ, zero, suc, ◌+◌, ◌<◌, ◌≤◌, false, ◌≡◌, refl, length, take, replicate}
+use Rattle.std.specs.Prelude.{ℕ, zero, suc, ◌<◌, ◌≤◌, false, ◌≡◌, refl, length, take, replicate}
 use mathlib.Core.List.{List, [], ◌∷◌}
 use Rattle.std.proofs.Math.Path.{ap}
 use Rattle.std.proofs.Common.{◌∙◌, arith, eq-eqb}

@@ -1,5 +1,5 @@
 -- The proved set: the questions that document 01 marks with a star in "Questions with known outcomes", one theorem by computation.
-use Rattle.std.specs.Prelude.{ℕ, zero, suc, ◌+◌, ◌||◌, List, [], ◌∷◌, ◌++◌, ◌≡◌, refl, replicate}
+use Rattle.std.specs.Prelude.{ℕ, zero, suc, List, [], ◌∷◌, ◌++◌, ◌≡◌, refl, replicate}
 use Rattle.costs.specs.Cost.{plus, no_more}
 use Rattle.costs.specs.Step.{decoded}
 use Rattle.costs.specs.Table.{kinds_fault, prices_fault}

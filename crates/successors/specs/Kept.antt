@@ -1,6 +1,6 @@
 -- The keys kept so far.
 use Rattle.std.specs.Prelude.{ℕ, ◌+◌, ◌≤◌, ◌<◌, ◌≡◌, Bool, true, false, List, [], ◌∷◌, ◌++◌, length, get_or, set, take}
-use Rattle.std.proofs.Common.{ap, sym, ◌∙◌, append-nil, arith, add-one, length-append, take-suc-set}
+use Rattle.std.proofs.Common.{ap, sym, append-nil, arith, add-one, length-append, take-suc-set}
 use Rattle.successors.specs.Parts.{offer, up_to, up_to_turn, up_to_length, offer_length}
 use Rattle.successors.specs.Successors.{is_first, first_at, firsts}
 use Rattle.successors.specs.declared.Distinct.{Distinct}

@@ -1,21 +1,17 @@
 -- Theorems: at most 50 steps from a window; each is allowed by the stack machine, and the keys of the window after it are below 64.
-use Rattle.std.specs.Prelude.{ℕ, zero, suc, ◌+◌, ◌≤◌, ◌<◌, ◌^◌, min, ◌≡◌, refl, Bool, true, false, ◌&&◌, ◌||◌, not, List, [], ◌∷◌, ◌++◌, map, get_or, set, drop, eqb, ltb}
-use Rattle.std.proofs.Common.{ap, sym, ◌∙◌, length-append}
-use Rattle.std.proofs.Math.Option.{Option, none, some}
+use Rattle.std.specs.Prelude.{ℕ, zero, suc, ◌+◌, ◌≤◌, ◌<◌, min, ◌≡◌, refl, Bool, true, false, ◌&&◌, ◌||◌, not, List, [], ◌∷◌, ◌++◌, get_or, set, drop, eqb, ltb}
+use Rattle.std.proofs.Common.{length-append}
 use native.Mathlib.Omega.{arith}
-use borrow.Author.Tests.{eqb-true, lt-ltb, ne_eqb}
+use borrow.Author.Tests.{lt-ltb, ne_eqb}
 use Rattle.std.proofs.Math.ListN.{length}
-use Rattle.std.proofs.lemmas.List.{length-map}
 use Rattle.costs.specs.Choice.{◌if◌otherwise◌}
 use Rattle.costs.specs.declared.Step.{Step}
 use Rattle.costs.specs.declared.Step.TheVariants.{Pop, Dup, Swap, PushImm, LoadVal}
-use Rattle.costs.specs.declared.Decoded.TheVariants.{Known}
-use Rattle.replay.specs.Machine.{Rules, room, immediate, value, allows, after, step_on}
-use Rattle.replay.specs.Laws.{and_left, and_right, after_fits}
-use Rattle.window.specs.Pack.{Keys, pack}
+use Rattle.replay.specs.Machine.{Rules, room, immediate, value, allows, after}
+use Rattle.replay.specs.Laws.{and_left}
+use Rattle.window.specs.Pack.{Keys}
 use Rattle.window.specs.Laws.{key_lt, keys_set}
-use Rattle.window.specs.Decode.{decode}
-use Rattle.successors.specs.Parts.{offer, up_to, each, All, all_append, all_offer, all_up_to, all_each, all_if, all_map, offer_length, if_length, up_to_length, up_to_length_from, each_length_3}
+use Rattle.successors.specs.Parts.{offer, up_to, All, all_append, all_offer, all_up_to, all_each, all_if, offer_length, if_length, up_to_length, up_to_length_from, each_length_3}
 use Rattle.successors.specs.Successors.{Question, suffix_start, is_first, first_at, firsts, kind_is, dominated, reached, swap_offered, dup_offered, other_offered, load_offered, pops, zero_at, swap_at, dup_at, other_at, load_at, grown, zeros, swaps, dups, others, loads, steps_from}
 
 -- what an accepted question is known to keep to

@@ -1,5 +1,5 @@
 -- The successors of a window, in their order (document 01, "One turn of the search": "Successors in order", "Skipped").
-use Rattle.std.specs.Prelude.{ℕ, ◌-◌, min, Bool, ◌&&◌, ◌||◌, not, List, [], ◌∷◌, ◌++◌, reverse, suc, length, get_or, take, eqb, ltb, leb}
+use Rattle.std.specs.Prelude.{ℕ, ◌-◌, min, Bool, ◌&&◌, not, List, [], ◌∷◌, ◌++◌, reverse, suc, length, get_or, take, eqb, ltb, leb}
 use Rattle.std.proofs.Math.Option.{Option, none, some}
 use Rattle.costs.specs.Choice.{◌if◌otherwise◌}
 use Rattle.costs.specs.Cost.{no_more}

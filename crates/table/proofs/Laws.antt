@@ -1,24 +1,21 @@
 -- Laws of parts of a list.
-use mathlib.Core.Path.{◌≡◌, refl, sym, ap, ap₂, ◌∙◌, subst}
-use mathlib.Core.Bool.{Bool, true, false}
+use mathlib.Core.Path.{◌≡◌, refl, sym, ap, ap₂, ◌∙◌}
 use mathlib.Core.List.{List, [], ◌∷◌, ◌++◌}
-use Prim.Native.Nat.{ℕ, zero, suc, ◌+◌, ◌-◌, ◌≤◌, ◌<◌, min}
+use Prim.Native.Nat.{ℕ, zero, suc, ◌+◌, ◌≤◌, ◌<◌, min}
 use native.Mathlib.Numerals.{add-one}
 use native.Mathlib.Omega.{arith}
 use lib.ListN.{length, get_or, set, take, drop, length-take, length-drop, length-append}
-use lib.Seq.{paste, paste-zero, paste-suc, length-paste, length_paste_head, take-take, take_all, take-length, take-nil, drop-nil, take_at, drop_at, take-append-le, drop-append-le, length-take-le}
+use lib.Seq.{paste, paste-zero, paste-suc, length_paste_head, take-take, take_all, take-length, take_at, drop_at, take-append-le, drop-append-le, length-take-le}
 use Rattle.nodes.proofs.Lemmas.{by_lt}
 use Rattle.replay.specs.declared.SearchCfg.{SearchCfg}
-use Rattle.window.specs.Pack.{Keys}
 use Rattle.window.specs.Laws.{key_lt}
-use Rattle.successors.specs.Successors.{Question, firsts}
-use Rattle.successors.specs.Limits.{Bounds}
+use Rattle.successors.specs.Successors.{firsts}
 use Rattle.successors.specs.Kept.{kept}
 use Rattle.successors.specs.Whole.{asked}
 use Rattle.successors.specs.declared.Distinct.{Distinct}
 use Rattle.heuristic.specs.Heuristic.{least_dup}
 use Rattle.heuristic.specs.Counts.{Counted, KeysFit}
-use Rattle.search.specs.Table.{kinds_in, want_in, goal_in, keys_in, question_of, Ready}
+use Rattle.search.specs.Table.{kinds_in, want_in, goal_in, question_of}
 use Rattle.search.specs.declared.Setup.{Setup}
 use Rattle.table.specs.Table.{Put, Accepted, Prepared}
 

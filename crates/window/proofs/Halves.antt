@@ -1,9 +1,9 @@
 -- A number held in two halves, hi * M + lo with M ≡ A * B, shifted by A. At A = 2 ^ s, B = 2 ^ (64 - s) this is a shift by s bits.
-use mathlib.Core.Path.{◌≡◌, refl, sym, ap, ◌∙◌, subst}
-use Prim.Native.Nat.{ℕ, zero, suc, ◌+◌, ◌-◌, ◌*◌, ◌/◌, ◌%◌, ◌^◌, ◌≤◌, ◌<◌}
+use mathlib.Core.Path.{◌≡◌, sym, ap, ◌∙◌, subst}
+use Prim.Native.Nat.{ℕ, suc, ◌+◌, ◌-◌, ◌*◌, ◌/◌, ◌%◌, ◌^◌, ◌≤◌, ◌<◌}
 use native.Mathlib.Nat.{pow-succ', mul_comm, mul_assoc, mul_right_comm, add-mul, mul-div-mul_right, mul-pos, div-add-mod', mul-add-div_right, div-lt_iff_lt-mul, mod-lt, mul-div_cancel, mul-mod_left, add-zero}
 use native.Mathlib.Omega.{arith}
-use lib.Arith.{digits_lt, digits_div, digits_mod, mod-mul}
+use lib.Arith.{digits_lt, digits_mod, mod-mul}
 use lib.Pow.{pow-add, pow_pos, shr-shr, high}
 use lib.Dec.{lit<}
 

@@ -1,7 +1,7 @@
 -- One digit of a word, or of a number in two halves, replaced.
 use mathlib.Core.Path.{◌≡◌, refl, sym, ap, ◌∙◌, subst}
-use Prim.Native.Nat.{ℕ, zero, suc, ◌+◌, ◌-◌, ◌*◌, ◌/◌, ◌%◌, ◌^◌, ◌≤◌, ◌<◌}
-use native.Mathlib.Nat.{mul_comm, mul_assoc, mul_right_comm, add-mul, div-add-mod', mul-add-div_right, mul-add-mod_self_right, div-lt_iff_lt-mul, mod-lt, mod-le, lt_of_le_of_lt, mod-eq_of_lt, mul-pos, pow-suc, mul-lt-mul_of_pos_right}
+use Prim.Native.Nat.{ℕ, ◌+◌, ◌-◌, ◌*◌, ◌/◌, ◌%◌, ◌^◌, ◌≤◌, ◌<◌}
+use native.Mathlib.Nat.{mul_comm, mul_assoc, mul_right_comm, add-mul, div-add-mod', mul-add-div_right, mul-add-mod_self_right, div-lt_iff_lt-mul, mod-lt, mod-eq_of_lt, mul-lt-mul_of_pos_right}
 use native.Mathlib.Omega.{arith}
 use lib.Arith.{digits_lt, digits_div, digits_mod, mod-mul}
 use lib.Pow.{pow-add, pow_pos}

@@ -1,7 +1,7 @@
 -- Bounds of a held state, and where its highest bit is.
-use mathlib.Core.Path.{◌≡◌, refl, sym, ap, ◌∙◌, subst}
-use Prim.Native.Nat.{ℕ, zero, suc, ◌+◌, ◌-◌, ◌*◌, ◌/◌, ◌%◌, ◌^◌, ◌≤◌, ◌<◌}
-use native.Mathlib.Nat.{mul_comm, lt_of_mul-lt-mul_right, lt_of_le_of_lt, lt_of_lt_of_le, le-add_right, le_of_eq, le_trans, mul-le-mul_left, mul-le-mul_right, lt_of_not-le, not-le_of_lt, le_antisymm, le_of_suc-le-suc, pow-suc}
+use mathlib.Core.Path.{◌≡◌, sym, ap, ◌∙◌, subst}
+use Prim.Native.Nat.{ℕ, suc, ◌+◌, ◌-◌, ◌*◌, ◌/◌, ◌%◌, ◌^◌, ◌≤◌, ◌<◌}
+use native.Mathlib.Nat.{mul_comm, lt_of_mul-lt-mul_right, lt_of_le_of_lt, lt_of_lt_of_le, le-add_right, le_of_eq, le_trans, mul-le-mul_right, lt_of_not-le, not-le_of_lt, le_antisymm, le_of_suc-le-suc, pow-suc}
 use native.Mathlib.Omega.{arith}
 use mathlib.Core.List.{List}
 use lib.ListN.{length, get_or, set}
@@ -9,7 +9,6 @@ use lib.Pow.{pow-add, pow_mono, pow_pos}
 use lib.Count.{count_leading_zeros, leading_top}
 use lib.Arith.{digits_lt}
 use Rattle.window.specs.declared.PackedState.{PackedState}
-use Rattle.window.specs.Pack.{Keys, pack}
 use Rattle.window.specs.Laws.{pack_low, pack_high, pack_get, pack_set, keys_set}
 use Rattle.window.specs.State.{Held, whole}
 

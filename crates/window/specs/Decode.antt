@@ -1,6 +1,6 @@
 -- The window that a number packs, as a function.
 use Rattle.std.specs.Prelude.{◌≡◌, refl, Bool, true, false, List, [], ◌∷◌, ℕ, zero, suc, ◌+◌, ◌*◌, ◌/◌, ◌%◌, ◌^◌, ◌≤◌, ◌<◌, ltb, length}
-use Rattle.std.proofs.Common.{sym, ap, ap₂, ◌∙◌, mul-le-mul, not-suc-le-zero, le_of_suc-le-suc, arith, le-ltb}
+use Rattle.std.proofs.Common.{ap, ap₂, ◌∙◌, mul-le-mul, not-suc-le-zero, le_of_suc-le-suc, arith, le-ltb}
 use Rattle.window.specs.declared.PackedState.{PackedState}
 use Rattle.window.specs.Pack.{Keys, pack}
 use Rattle.window.specs.Laws.{two_le, pack_pos, head_of, tail_of}

@@ -1,6 +1,6 @@
 -- Laws of `pack`, over the width w.
 use Rattle.std.specs.Prelude.{◌≡◌, refl, ℕ, zero, suc, ◌+◌, ◌-◌, ◌*◌, ◌/◌, ◌%◌, ◌^◌, ◌≤◌, ◌<◌, Bool, true, false, ◌||◌, List, [], ◌∷◌, ltb, length, get_or, set}
-use Rattle.std.proofs.Common.{sym, ap, ap₂, ◌∙◌, subst, one-mul, add-mul, mul_right_comm, mul-le-mul, mul-zero, mul-suc, mul_comm, mul_assoc, mul-add, mul-one, div-one, zero-add, add_comm, not-suc-le-zero, le_of_suc-le-suc, mod-eq_of_lt, mul-le-mul_left, mul-le-mul_right, le_trans, le_of_eq, lt_irrefl, arith, ltb-false, pow_pos, pow-add, pow_mono, shr-shr}
+use Rattle.std.proofs.Common.{sym, ap, ap₂, ◌∙◌, one-mul, add-mul, mul_right_comm, mul-le-mul, mul-zero, mul-suc, mul_comm, mul_assoc, mul-add, mul-one, div-one, zero-add, add_comm, not-suc-le-zero, le_of_suc-le-suc, mod-eq_of_lt, mul-le-mul_left, le_trans, le_of_eq, arith, ltb-false, pow_pos, pow-add, pow_mono, shr-shr}
 use Rattle.std.proofs.Math.Nat.{add-mul-mod_self_left, add-mul-div_left, div-eq_of_lt}
 use Rattle.costs.specs.Laws.{or_left}
 use Rattle.costs.specs.Table.{any_over}

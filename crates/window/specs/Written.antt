@@ -1,5 +1,5 @@
 -- A list with the first places written over.
-use Rattle.std.specs.Prelude.{ℕ, suc, ◌+◌, ◌-◌, ◌<◌, ◌≤◌, List, [], ◌∷◌, ◌++◌, Bool, true, false, ◌≡◌, refl, eqb, length, get_or, set, take, drop}
+use Rattle.std.specs.Prelude.{ℕ, ◌+◌, ◌-◌, ◌<◌, ◌≤◌, List, [], ◌∷◌, ◌++◌, Bool, true, false, ◌≡◌, refl, eqb, length, get_or, set, take, drop}
 use Rattle.std.proofs.Common.{ap, sym, subst, ◌∙◌, zero-add, add-one, arith, eqb-true, eq-eqb, length-set, length-drop, length-append, take_at, drop-cons}
 use Rattle.std.proofs.Math.Seq.{paste, paste-zero, paste-suc, take-length}
 use Rattle.window.specs.declared.PackedState.{PackedState}

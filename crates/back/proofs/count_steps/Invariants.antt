@@ -1,8 +1,5 @@
 use Rattle.lists.specs.View.{nodes_of}
-use Rattle.back.proofs.Steps.{Counting, counting_first, counted_here, counted_out, counted_missing, counted_none, counted_on}
-use Rattle.std.proofs.Common.{rules}
-use Rattle.lists.proofs.recall.Reads as recall-reads
-use Rattle.window.proofs.PackedState.same.Reads as same_Reads
+use Rattle.back.proofs.Steps.{Counting}
 use Rattle.back.proofs.count_steps.Given as goal
 
 abbrev pub invariant-loop-start : goal.invariant-loop-start

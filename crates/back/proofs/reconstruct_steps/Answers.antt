@@ -1,7 +1,5 @@
 use Rattle.back.proofs.Steps.{read_lost, count_known, count_few, count_fits}
 use Rattle.std.proofs.Common.{rules}
-use Rattle.back.proofs.count_steps.Reads as count-steps-reads
-use Rattle.back.proofs.write_steps.Reads as write-steps-reads
 use Rattle.back.proofs.reconstruct_steps.Goals as goal
 
 pub returns-in_default : goal.returns-in_default

@@ -2,7 +2,6 @@
 use Rattle.builders.specs.Work.{fresh_begun}
 use Rattle.builders.specs.FillCode.{fit_room}
 use Rattle.builders.specs.BuildCode.{begun_fit, build_yes, build_no}
-use Rattle.std.proofs.Common.{rules}
 use Rattle.builders.proofs.build.Goals as goal
 
 pub trim-a-requires : goal.trim-a-requires

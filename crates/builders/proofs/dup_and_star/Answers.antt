@@ -1,7 +1,6 @@
 -- The plan is written over the first places, or nothing is.
-use Rattle.std.proofs.Math.Path.{◌≡◌, ◌∙◌}
 use Rattle.std.specs.Prelude.{refl}
-use Rattle.std.proofs.Common.{sym, arith, rules}
+use Rattle.std.proofs.Common.{arith}
 use Rattle.builders.specs.BuildCode.{built_yes, built_no}
 use Rattle.builders.proofs.dup_and_star.Goals as goal
 

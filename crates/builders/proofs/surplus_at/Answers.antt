@@ -2,7 +2,7 @@
 use Prim.Native.Nat.{ℕ, ◌-◌, ◌<◌}
 use Rattle.std.specs.Prelude.{List, length, take, drop, ◌++◌}
 use Rattle.std.proofs.Math.Path.{◌≡◌, ◌∙◌}
-use Rattle.std.proofs.Common.{sym, ap, subst, arith, rules}
+use Rattle.std.proofs.Common.{sym, ap, subst, arith}
 use Rattle.std.proofs.Math.ListN.{get_or}
 use Rattle.std.proofs.Math.Seq.{get_or-take}
 use Rattle.window.specs.declared.PackedState.{PackedState}
@@ -11,7 +11,7 @@ use Rattle.window.specs.Written.{written_length, written_front, written_take}
 use Rattle.star_swap.specs.Check.{Counts}
 use Rattle.star_swap.specs.Routable.{Small}
 use Rattle.builders.specs.Dup.{first_at}
-use Rattle.builders.specs.TrimCode.{Seeking, more_than, held_small, key_low, seek_first, seek_found, seek_next, seek_last, seen_more, seen_enough}
+use Rattle.builders.specs.TrimCode.{more_than, held_small, key_low, seek_first, seek_found, seek_next, seek_last, seen_more, seen_enough}
 use Rattle.builders.proofs.surplus_at.Goals as goal
 
 -- the keys of the window stand in the first places, and are so many

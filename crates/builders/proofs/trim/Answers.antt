@@ -1,11 +1,7 @@
 -- What is left to trim decides: the loop's invariant.
-use Rattle.std.proofs.Math.Path.{◌≡◌, ◌∙◌}
-use Rattle.std.proofs.Common.{sym, arith, rules}
-use Rattle.std.specs.Prelude.{length}
-use Rattle.window.specs.Keys.{keys_of}
-use Rattle.star_swap.specs.Check.{Counts}
-use Rattle.builders.specs.Area.{work_of}
-use Rattle.builders.specs.TrimCode.{Trimming, trim_first, trim_far, trim_next, trim_last}
+use Rattle.std.proofs.Math.Path.{◌∙◌}
+use Rattle.std.proofs.Common.{sym, arith}
+use Rattle.builders.specs.TrimCode.{trim_first, trim_far, trim_next, trim_last}
 use Rattle.builders.proofs.trim.Goals as goal
 
 pub loop-next-init : goal.loop-next-init

@@ -1,11 +1,10 @@
 -- What is left to trim decides: the loop's invariant.
-use Rattle.std.proofs.Math.Path.{◌≡◌, ◌∙◌}
-use Rattle.std.proofs.Common.{sym, arith, rules}
+use Rattle.std.proofs.Math.Path.{◌≡◌}
 use Rattle.std.specs.Prelude.{length}
 use Rattle.window.specs.Keys.{keys_of}
 use Rattle.star_swap.specs.Check.{Counts}
 use Rattle.builders.specs.Area.{work_of}
-use Rattle.builders.specs.TrimCode.{Trimming, trim_first, trim_far, trim_next, trim_last}
+use Rattle.builders.specs.TrimCode.{Trimming}
 use Rattle.builders.proofs.trim.Given as goal
 
 abbrev pub invariant-loop-next : goal.invariant-loop-next

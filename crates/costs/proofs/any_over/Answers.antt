@@ -1,6 +1,4 @@
 -- The greatest is over the limit if some number is.
-use Rattle.std.proofs.Common.{rules, sym, ap}
-use Rattle.std.proofs.Math.Path.{◌≡◌, ◌∙◌}
 use Rattle.costs.specs.Most.{over_most}
 use Rattle.costs.proofs.any_over.Goals as goal
 

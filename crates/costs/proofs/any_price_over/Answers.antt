@@ -1,12 +1,5 @@
 -- Whether one was over so far, or one of those left is: the loop's invariant.
-use Rattle.std.proofs.Common.{rules, sym, ap, arith}
-use Prim.Native.Nat.{◌≤◌, ◌-◌, ◌+◌}
-use Rattle.std.proofs.Math.Bool.{◌||◌}
-use Rattle.std.proofs.Math.Path.{◌≡◌, ◌∙◌}
-use Rattle.std.proofs.Math.Logic.{⊎_elim}
-use Rattle.std.specs.Prelude.{ltb, length, drop}
-use Rattle.std.proofs.Math.ListN.{drop_of_length-le}
-use Rattle.costs.specs.Table.{any_over}
+use Rattle.std.proofs.Common.{arith}
 use Rattle.costs.specs.Most.{over_seen, over_next, over_none}
 use Rattle.costs.proofs.any_price_over.Goals as goal
 use Rattle.costs.proofs.any_price_over.Goals.{then-limit-list, else-limit-list}

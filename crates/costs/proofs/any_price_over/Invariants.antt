@@ -1,13 +1,9 @@
 -- Whether one was over so far, or one of those left is: the loop's invariant.
-use Rattle.std.proofs.Common.{rules, sym, ap, arith}
-use Prim.Native.Nat.{◌≤◌, ◌-◌, ◌+◌}
+use Prim.Native.Nat.{◌≤◌, ◌-◌}
 use Rattle.std.proofs.Math.Bool.{◌||◌}
-use Rattle.std.proofs.Math.Path.{◌≡◌, ◌∙◌}
-use Rattle.std.proofs.Math.Logic.{⊎_elim}
+use Rattle.std.proofs.Math.Path.{◌≡◌}
 use Rattle.std.specs.Prelude.{ltb, length, drop}
-use Rattle.std.proofs.Math.ListN.{drop_of_length-le}
 use Rattle.costs.specs.Table.{any_over}
-use Rattle.costs.specs.Most.{over_seen, over_next, over_none}
 use Rattle.costs.proofs.any_price_over.Given as goal
 
 abbrev pub invariant-loop-i : goal.invariant-loop-i

@@ -1,5 +1,5 @@
 -- The step's code, by the constructor that each arm is given.
-use Rattle.std.proofs.Common.{rules, ap, sym}
+use Rattle.std.proofs.Common.{ap, sym}
 use Rattle.costs.specs.Step.{code_of}
 use Rattle.costs.proofs.code.Goals as goal
 

@@ -1,10 +1,8 @@
 -- The greatest so far and what is left to look at make the whole: the loop's invariant.
-use Rattle.std.proofs.Common.{rules, sym, ap, arith}
-use Prim.Native.Nat.{◌≤◌, ◌-◌, max}
-use Rattle.std.proofs.Math.Path.{◌≡◌, ◌∙◌}
-use Rattle.std.specs.Prelude.{length, drop}
+use Rattle.std.proofs.Common.{sym, arith}
+use Rattle.std.proofs.Math.Path.{◌∙◌}
 use Rattle.std.proofs.Math.ListN.{drop_of_length-le}
-use Rattle.costs.specs.Most.{most_from, most_turn}
+use Rattle.costs.specs.Most.{most_turn}
 use Rattle.costs.proofs.greatest.Goals as goal
 
 pub loop-i-preserved : goal.loop-i-preserved

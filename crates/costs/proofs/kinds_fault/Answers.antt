@@ -1,5 +1,5 @@
 -- Each answer, by the tests that led there.
-use Rattle.std.proofs.Common.{rules, sym}
+use Rattle.std.proofs.Common.{sym}
 use borrow.Author.Tests.{eq-eqb, ne_eqb}
 use Rattle.std.proofs.Math.Path.{◌∙◌}
 use Rattle.costs.specs.Table.{kinds_fault}

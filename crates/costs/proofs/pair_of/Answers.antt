@@ -1,5 +1,5 @@
 -- The step's pair, by the constructor that each arm is given; an operand is a byte.
-use Rattle.std.proofs.Common.{rules, ap, sym, arith}
+use Rattle.std.proofs.Common.{ap, sym, arith}
 use Rattle.costs.specs.Step.{pair_of}
 use Rattle.costs.proofs.pair_of.Goals as goal
 

@@ -1,4 +1,4 @@
-use Rattle.std.proofs.Common.{rules, sym}
+use Rattle.std.proofs.Common.{sym}
 use Rattle.std.proofs.Math.ListN.{get_or-eq_default}
 use Rattle.costs.proofs.price_at.Goals as goal
 

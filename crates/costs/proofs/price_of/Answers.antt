@@ -1,5 +1,5 @@
 -- The price, by the case that the code stands for.
-use Rattle.std.proofs.Common.{rules, ap, sym, arith}
+use Rattle.std.proofs.Common.{ap, sym}
 use Rattle.std.proofs.Math.Path.{◌∙◌}
 use Rattle.costs.specs.Price.{price_of}
 use Rattle.costs.proofs.price_of.Goals as goal

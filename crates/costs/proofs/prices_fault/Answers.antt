@@ -1,5 +1,4 @@
 -- Each answer, by the tests that led there.
-use Rattle.std.proofs.Common.{rules}
 use borrow.Author.Tests.{eq-eqb, ne_eqb}
 use Rattle.costs.specs.Table.{prices_fault}
 use Rattle.costs.proofs.prices_fault.Goals as goal

@@ -1,4 +1,3 @@
-use Rattle.std.proofs.Common.{rules}
 use Rattle.desk_answer.specs.Planning.{plan_is}
 use Rattle.desk_answer.proofs.planned.Goals as goal
 

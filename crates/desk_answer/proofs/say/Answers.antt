@@ -1,4 +1,3 @@
-use Rattle.std.proofs.Common.{rules}
 use Rattle.desk_answer.specs.Desk.{count_is, print_fits, say_plan, say_refused}
 use Rattle.desk_answer.proofs.say.Goals as goal
 

@@ -1,5 +1,4 @@
 use Rattle.heap.proofs.Order.{at_f, at_g, at_h, at_l}
-use Rattle.std.proofs.Common.{rules}
 use Rattle.heap.proofs.below.Goals as goal
 
 pub returns-then-list-a : goal.returns-then-list-a

@@ -1,10 +1,4 @@
-use Rattle.std.proofs.Common.{arith, rules}
-use Prim.Native.Nat.{◌-◌}
-use Rattle.heap.proofs.Sift.{Falls, falls_first, falls_step, falls_done, falls_end, falls_sorted}
-use Rattle.heap.proofs.less.Reads as less-reads
-use Rattle.heap.proofs.lesser.Reads as lesser-reads
-use Rattle.heap.proofs.load.Reads as load-reads
-use Rattle.heap.proofs.put.Reads as put_reads
+use Rattle.heap.proofs.Sift.{falls_first, falls_step, falls_done, falls_end, falls_sorted}
 use Rattle.heap.proofs.fall.Goals as goal
 
 pub loop-i-init : goal.loop-i-init

@@ -1,5 +1,4 @@
-use Rattle.heap.proofs.Order.{Narrow, by_f, by_g, by_h, by_l}
-use Rattle.std.proofs.Common.{arith, rules}
+use Rattle.heap.proofs.Order.{by_f, by_g, by_h, by_l}
 use Rattle.heap.proofs.less.Goals as goal
 
 pub returns-then-a-b : goal.returns-then-a-b

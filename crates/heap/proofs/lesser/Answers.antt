@@ -1,6 +1,4 @@
-use Rattle.std.proofs.Common.{arith, rules}
 use Rattle.heap.proofs.Sift.{lesser_left, lesser_right, lesser_alone}
-use Rattle.heap.proofs.below.Reads as below-reads
 use Rattle.heap.proofs.lesser.Goals as goal
 
 pub returns-then-below : goal.returns-then-below

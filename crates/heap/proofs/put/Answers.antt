@@ -1,4 +1,4 @@
-use Rattle.std.proofs.Common.{arith, length-set, rules}
+use Rattle.std.proofs.Common.{arith, length-set}
 use Rattle.heap.proofs.put.Goals as goal
 
 pub bounds-list-at-2 : goal.bounds-list-at-2

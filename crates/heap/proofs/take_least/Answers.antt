@@ -2,9 +2,7 @@ use Rattle.std.specs.Prelude.{refl}
 use Rattle.heap.specs.Heap.{placed}
 use Rattle.heap.proofs.Order.{decode_key}
 use Rattle.heap.proofs.Least.{root_placed, least_taken}
-use Rattle.std.proofs.Common.{arith, rules}
-use Rattle.heap.proofs.fall.Reads as fall-reads
-use Rattle.heap.proofs.load.Reads as load-reads
+use Rattle.std.proofs.Common.{arith}
 use Rattle.heap.proofs.take_least.Goals as goal
 
 pub fall-requires : goal.fall-requires

@@ -1,7 +1,5 @@
 use Rattle.heuristic.specs.Steady.{some_there, popping, popped_by}
-use Rattle.std.proofs.Common.{arith, rules}
-use Rattle.heuristic.proofs.at.Reads as at_reads
-use Rattle.heuristic.proofs.one_less.Reads as one-less-reads
+use Rattle.std.proofs.Common.{arith}
 use Rattle.heuristic.proofs.after_pop.Goals as goal
 
 pub at-old-requires : goal.at-old-requires

@@ -1,7 +1,5 @@
 use Rattle.heuristic.specs.Steady.{pushing, pushed_is}
-use Rattle.std.proofs.Common.{arith, rules}
-use Rattle.heuristic.proofs.at.Reads as at_reads
-use Rattle.heuristic.proofs.one_more.Reads as one-more-reads
+use Rattle.std.proofs.Common.{arith}
 use Rattle.heuristic.proofs.after_push.Goals as goal
 
 pub at-old-requires : goal.at-old-requires

@@ -1,10 +1,7 @@
-use Rattle.heuristic.specs.Bare.{bare_term, over_keys, over_begin, over_on, over_end}
-use Rattle.std.specs.Prelude.{length, drop, refl}
-use Prim.Native.Nat.{ℕ, ◌≤◌, ◌<◌, ◌-◌}
-use Rattle.std.proofs.Common.{arith, rules}
-use Rattle.std.proofs.Math.Path.{◌≡◌}
-use Rattle.costs.proofs.saturating_add.Reads as saturating-add-reads
-use Rattle.heuristic.proofs.count_term.Reads as count-term-reads
+use Rattle.heuristic.specs.Bare.{over_begin, over_on, over_end}
+use Rattle.std.specs.Prelude.{refl}
+use Prim.Native.Nat.{◌-◌}
+use Rattle.std.proofs.Common.{arith}
 use Rattle.heuristic.proofs.bare.Goals as goal
 
 pub loop-i-init : goal.loop-i-init

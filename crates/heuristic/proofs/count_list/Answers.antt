@@ -1,10 +1,8 @@
-use Rattle.heuristic.specs.Counts.{Counted, count_on, count_end, count_start, count_small}
-use Rattle.std.specs.Prelude.{length, drop, refl}
-use Rattle.std.proofs.Math.ListN.{get_or}
-use Prim.Native.Nat.{ℕ, ◌≤◌, ◌<◌, ◌-◌}
-use Rattle.std.proofs.Common.{arith, sym, ap, rules}
-use Rattle.std.proofs.Math.Path.{◌≡◌, ◌∙◌}
-use Rattle.heuristic.proofs.more.Reads as more-reads
+use Rattle.heuristic.specs.Counts.{count_on, count_end, count_start, count_small}
+use Rattle.std.specs.Prelude.{refl}
+use Prim.Native.Nat.{◌-◌}
+use Rattle.std.proofs.Common.{arith, sym}
+use Rattle.std.proofs.Math.Path.{◌∙◌}
 use Rattle.heuristic.proofs.count_list.Goals as goal
 
 pub loop-i-init : goal.loop-i-init

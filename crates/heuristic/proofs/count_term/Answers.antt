@@ -1,8 +1,4 @@
 use Rattle.heuristic.specs.Counts.{term_by, count_enough}
-use Rattle.std.proofs.Common.{rules}
-use Rattle.heuristic.proofs.at.Reads as at_reads
-use Rattle.heuristic.proofs.gas_of.Reads as gas-of-reads
-use Rattle.heuristic.proofs.key_term.Reads as key-term-reads
 use Rattle.heuristic.proofs.count_term.Goals as goal
 
 pub returns-then-count-w : goal.returns-then-count-w

@@ -1,7 +1,6 @@
 use Rattle.costs.specs.declared.Cost.{Cost}
-use Rattle.std.proofs.Common.{ap, rules}
+use Rattle.std.proofs.Common.{ap}
 use Rattle.heuristic.specs.Heuristic.{gas_of}
-use Rattle.costs.proofs.price_of.Reads as price-of-reads
 use Rattle.heuristic.proofs.gas_of.Goals as goal
 
 pub returns : goal.returns

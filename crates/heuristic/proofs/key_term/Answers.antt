@@ -1,8 +1,4 @@
 use Rattle.heuristic.specs.Counts.{term_surplus, term_enough, term_first, term_missing}
-use Rattle.std.proofs.Common.{rules}
-use Rattle.costs.proofs.saturating_add.Reads as saturating-add-reads
-use Rattle.heuristic.proofs.lesser.Reads as lesser-reads
-use Rattle.heuristic.proofs.saturating_mul.Reads as saturating-mul-reads
 use Rattle.heuristic.proofs.key_term.Goals as goal
 
 pub returns-then-want-have : goal.returns-then-want-have

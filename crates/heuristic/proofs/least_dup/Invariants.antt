@@ -1,8 +1,6 @@
-use Rattle.heuristic.specs.LeastDup.{gas_in_hand, none_taken, last_taken, all_taken}
-use Prim.Native.Nat.{ℕ, ◌≤◌, ◌-◌}
-use Rattle.std.proofs.Common.{arith, sym, rules}
-use Rattle.std.proofs.Math.Path.{◌≡◌, ◌∙◌}
-use Rattle.heuristic.proofs.take_dup.Reads as take-dup-reads
+use Rattle.heuristic.specs.LeastDup.{gas_in_hand}
+use Prim.Native.Nat.{◌≤◌, ◌-◌}
+use Rattle.std.proofs.Math.Path.{◌≡◌}
 use Rattle.heuristic.proofs.least_dup.Given as goal
 
 abbrev pub invariant-loop-i : goal.invariant-loop-i

@@ -1,8 +1,5 @@
 use Rattle.heuristic.specs.Steady.{term_pop, term_mat, term_per}
-use Rattle.std.proofs.Common.{arith, rules}
-use Rattle.heuristic.proofs.at.Reads as at_reads
-use Rattle.heuristic.proofs.gas_of.Reads as gas-of-reads
-use Rattle.heuristic.proofs.lesser.Reads as lesser-reads
+use Rattle.std.proofs.Common.{arith}
 use Rattle.heuristic.proofs.one_less.Goals as goal
 
 pub overflow_sub-result : goal.overflow_sub-result

@@ -1,18 +1,11 @@
-use Rattle.window.specs.State.{Held}
 use Rattle.window.specs.Laws.{key_lt}
 use Rattle.window.specs.Keys.{keys_of, keys_length}
-use Rattle.heuristic.specs.Counts.{Counted, count_small}
-use Rattle.heuristic.specs.Steady.{Standing, standing_on, standing_begin, standing_end, key_dropped}
-use Rattle.std.specs.Prelude.{length, drop, refl}
-use Rattle.std.proofs.Math.ListN.{get_or}
-use Rattle.std.proofs.Common.{length-drop, arith, sym, ap, rules}
-use mathlib.Core.List.{List, [], ◌∷◌}
-use Prim.Native.Nat.{ℕ, ◌+◌, ◌≤◌, ◌<◌, ◌-◌}
-use Rattle.std.proofs.Math.Path.{◌≡◌, ◌∙◌}
-use Rattle.heuristic.proofs.after_push.Reads as after-push-reads
-use Rattle.heuristic.proofs.more.Reads as more-reads
-use Rattle.window.proofs.PackedState.get.Reads as get-reads
-use Rattle.window.proofs.PackedState.len.Reads as len-reads
+use Rattle.heuristic.specs.Counts.{count_small}
+use Rattle.heuristic.specs.Steady.{standing_on, standing_begin, standing_end, key_dropped}
+use Rattle.std.specs.Prelude.{drop}
+use Rattle.std.proofs.Common.{length-drop, arith, sym}
+use Prim.Native.Nat.{◌<◌, ◌-◌}
+use Rattle.std.proofs.Math.Path.{◌∙◌}
 use Rattle.heuristic.proofs.standing.Goals as goal
 
 pub loop-i-init : goal.loop-i-init

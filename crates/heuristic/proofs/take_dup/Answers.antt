@@ -1,7 +1,5 @@
 use Rattle.heuristic.specs.LeastDup.{next_taken, least_taken}
-use Rattle.std.proofs.Common.{arith, rules}
-use Rattle.heuristic.proofs.gas_of.Reads as gas-of-reads
-use Rattle.heuristic.proofs.lesser.Reads as lesser-reads
+use Rattle.std.proofs.Common.{arith}
 use Rattle.heuristic.proofs.take_dup.Goals as goal
 
 pub returns : goal.returns

@@ -1,8 +1,6 @@
 -- What is left to compare decides: the loop's invariant.
-use Prim.Native.Nat.{◌-◌, ◌≤◌}
-use Rattle.std.proofs.Common.{arith, rules}
-use Rattle.std.specs.Prelude.{length}
-use Rattle.incumbent.specs.Laws.{Matching, match_first, match_next, match_stop, match_last, suffix_is}
+use Rattle.std.proofs.Common.{arith}
+use Rattle.incumbent.specs.Laws.{match_first, match_next, match_stop, match_last, suffix_is}
 use Rattle.incumbent.proofs.common_suffix.Goals as goal
 
 pub loop-k-init : goal.loop-k-init

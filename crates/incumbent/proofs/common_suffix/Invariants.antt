@@ -1,8 +1,7 @@
 -- What is left to compare decides: the loop's invariant.
 use Prim.Native.Nat.{◌-◌, ◌≤◌}
-use Rattle.std.proofs.Common.{arith, rules}
 use Rattle.std.specs.Prelude.{length}
-use Rattle.incumbent.specs.Laws.{Matching, match_first, match_next, match_stop, match_last, suffix_is}
+use Rattle.incumbent.specs.Laws.{Matching}
 use Rattle.incumbent.proofs.common_suffix.Given as goal
 
 abbrev pub invariant-loop-k : goal.invariant-loop-k

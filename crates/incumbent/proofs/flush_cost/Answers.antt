@@ -1,5 +1,5 @@
 -- Pops down to the common suffix, then the keys above it.
-use Rattle.std.proofs.Common.{arith, rules}
+use Rattle.std.proofs.Common.{arith}
 use Rattle.incumbent.specs.Laws.{suffix_low, flush_is}
 use Rattle.incumbent.proofs.flush_cost.Goals as goal
 

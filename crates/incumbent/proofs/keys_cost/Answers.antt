@@ -1,9 +1,7 @@
 -- The sum so far and the keys left decide: the loop's invariant.
-use Prim.Native.Nat.{◌-◌, ◌≤◌}
-use Rattle.std.proofs.Math.Path.{◌≡◌, ◌∙◌}
-use Rattle.std.specs.Prelude.{refl, length, drop}
-use Rattle.std.proofs.Common.{sym, arith, rules}
-use Rattle.incumbent.specs.Flush.{with_keys}
+use Rattle.std.proofs.Math.Path.{◌∙◌}
+use Rattle.std.specs.Prelude.{refl}
+use Rattle.std.proofs.Common.{sym, arith}
 use Rattle.incumbent.specs.Laws.{keys_turn, keys_end}
 use Rattle.incumbent.proofs.keys_cost.Goals as goal
 

@@ -1,10 +1,8 @@
 -- The sum so far and the keys left decide: the loop's invariant.
 use Prim.Native.Nat.{◌-◌, ◌≤◌}
-use Rattle.std.proofs.Math.Path.{◌≡◌, ◌∙◌}
-use Rattle.std.specs.Prelude.{refl, length, drop}
-use Rattle.std.proofs.Common.{sym, arith, rules}
+use Rattle.std.proofs.Math.Path.{◌≡◌}
+use Rattle.std.specs.Prelude.{length, drop}
 use Rattle.incumbent.specs.Flush.{with_keys}
-use Rattle.incumbent.specs.Laws.{keys_turn, keys_end}
 use Rattle.incumbent.proofs.keys_cost.Given as goal
 
 abbrev pub invariant-loop-i : goal.invariant-loop-i

@@ -1,5 +1,5 @@
 -- A builder that has none is passed over; else its plan's cost decides.
-use Rattle.std.proofs.Common.{arith, rules}
+use Rattle.std.proofs.Common.{arith}
 use Rattle.incumbent.specs.Laws.{offer_none, offer_dear, offer_taken, in_range}
 use Rattle.incumbent.proofs.offer.Goals as goal
 

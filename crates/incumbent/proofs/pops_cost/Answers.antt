@@ -1,8 +1,6 @@
 -- The sum so far and the pops left decide: the loop's invariant.
-use Prim.Native.Nat.{◌-◌, ◌≤◌}
-use Rattle.std.proofs.Math.Path.{◌≡◌, ◌∙◌}
-use Rattle.std.proofs.Common.{sym, arith, rules}
-use Rattle.incumbent.specs.Flush.{with_pops, pops_cost}
+use Rattle.std.proofs.Math.Path.{◌∙◌}
+use Rattle.std.proofs.Common.{sym, arith}
 use Rattle.incumbent.specs.Laws.{pops_turn, pops_end, pops_first}
 use Rattle.incumbent.proofs.pops_cost.Goals as goal
 

@@ -1,9 +1,7 @@
 -- The sum so far and the pops left decide: the loop's invariant.
 use Prim.Native.Nat.{◌-◌, ◌≤◌}
-use Rattle.std.proofs.Math.Path.{◌≡◌, ◌∙◌}
-use Rattle.std.proofs.Common.{sym, arith, rules}
+use Rattle.std.proofs.Math.Path.{◌≡◌}
 use Rattle.incumbent.specs.Flush.{with_pops, pops_cost}
-use Rattle.incumbent.specs.Laws.{pops_turn, pops_end, pops_first}
 use Rattle.incumbent.proofs.pops_cost.Given as goal
 
 abbrev pub invariant-loop-i : goal.invariant-loop-i

@@ -1,6 +1,4 @@
 use Rattle.lists.proofs.Rows.{node_row}
-use Rattle.std.proofs.Common.{rules}
-use Rattle.lists.proofs.parent_of.Reads as parent-of-reads
 use Rattle.lists.proofs.node_of.Goals as goal
 
 pub returns : goal.returns

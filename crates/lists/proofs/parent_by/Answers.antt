@@ -1,6 +1,4 @@
 use Rattle.lists.proofs.Rows.{parent_none, parent_some}
-use Rattle.std.proofs.Common.{rules}
-use Rattle.costs.proofs.decode.Reads as decode-reads
 use Rattle.lists.proofs.parent_by.Goals as goal
 
 pub returns-in_default : goal.returns-in_default

@@ -1,7 +1,4 @@
 use Rattle.lists.proofs.Rows.{parent_over, parent_as}
-use Rattle.std.proofs.Common.{rules}
-use Rattle.lists.proofs.code_of.Reads as code-of-reads
-use Rattle.lists.proofs.parent_by.Reads as parent-by-reads
 use Rattle.lists.proofs.parent_of.Goals as goal
 
 pub returns-then-step-ge65536 : goal.returns-then-step-ge65536

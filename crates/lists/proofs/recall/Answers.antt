@@ -1,8 +1,4 @@
 use Rattle.lists.proofs.Nodes.{recalled_none, recalled_some, there_room}
-use Rattle.std.proofs.Common.{rules}
-use Rattle.lists.proofs.find.Reads as find-reads
-use Rattle.lists.proofs.node_of.Reads as node-of-reads
-use Rattle.nodes.proofs.row_at.Reads as row-at-reads
 use Rattle.lists.proofs.recall.Goals as goal
 
 pub returns-in_default : goal.returns-in_default

@@ -1,5 +1,4 @@
 use Rattle.lists.proofs.Rows.{row_start, row_by}
-use Rattle.std.proofs.Common.{rules}
 use Rattle.lists.proofs.row_of.Goals as goal
 
 pub returns-in_default-clause-result_value : goal.returns-in_default-clause-result_value

@@ -1,7 +1,5 @@
 use Rattle.lists.proofs.Nodes.{sought_row, stored_node}
 use Rattle.std.proofs.Common.{rules}
-use Rattle.lists.proofs.row_of.Reads as row-of-reads
-use Rattle.lists.proofs.store_row.Reads as store-row-reads
 use Rattle.lists.proofs.store.Goals as goal
 
 pub store_row-requires : goal.store_row-requires

@@ -1,7 +1,5 @@
 use Rattle.lists.proofs.Nodes.{stored_insert, stored_update, there_lt, row_state}
 use Rattle.std.proofs.Common.{rules}
-use Rattle.nodes.proofs.insert.Reads as insert-reads
-use Rattle.nodes.proofs.update.Reads as update-reads
 use Rattle.lists.proofs.store_row.Goals as goal
 
 pub returns-in_default : goal.returns-in_default

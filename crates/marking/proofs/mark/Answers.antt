@@ -1,6 +1,6 @@
 -- A refusal by the table; else what the run's contract gives of its answer and its result list.
-use Rattle.std.proofs.Common.{rules, sym, ap, ap₂, arith, length-append, length-take-le}
-use Prim.Native.Nat.{ℕ, ◌≤◌}
+use Rattle.std.proofs.Common.{sym, ap, ap₂, arith, length-append, length-take-le}
+use Prim.Native.Nat.{ℕ}
 use Rattle.std.proofs.Math.Path.{◌≡◌, ◌∙◌}
 use mathlib.Core.List.{List, ◌++◌}
 use Rattle.std.specs.Prelude.{length, take, drop, replicate}
@@ -12,7 +12,7 @@ use Rattle.replay.specs.Beneath.{narrowed}
 use Rattle.replay.specs.Replay as replay
 use Rattle.replay.specs.declared.Replayed.{Replayed}
 use Rattle.replay.specs.Laws.{Accepted, accepted, never_refuses, ended}
-use Rattle.marking.specs.Marking.{marked_on, mark_refusal, mark_outcome, answer_of, ceiling}
+use Rattle.marking.specs.Marking.{marked_on, mark_outcome, ceiling}
 use Rattle.marking.specs.Laws.{replays, answer_refused, answer_ends, outcome_refuses, outcome_runs}
 use Rattle.marking.proofs.mark.Lts
 use Rattle.marking.proofs.mark.Reads

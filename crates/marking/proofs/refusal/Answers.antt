@@ -1,5 +1,4 @@
 -- The rows of the table, each by what its function ensures.
-use Rattle.std.proofs.Common.{rules}
 use Rattle.marking.specs.Marking.{mark_table}
 use Rattle.marking.proofs.refusal.Goals as goal
 

@@ -1,11 +1,9 @@
 -- What is left to compare decides: the loop's invariant.
-use Rattle.std.proofs.Common.{rules, sym, arith}
-use Prim.Native.Nat.{◌≤◌, ◌<◌, ◌-◌, ◌+◌}
-use Rattle.std.proofs.Math.Path.{◌≡◌, ◌∙◌}
+use Rattle.std.proofs.Common.{sym, arith}
+use Prim.Native.Nat.{◌≤◌, ◌<◌}
 use borrow.Author.Tests.{eq-eqb, ne_eqb}
-use Rattle.std.specs.Prelude.{length, drop}
+use Rattle.std.specs.Prelude.{length}
 use Rattle.std.proofs.Math.ListN.{drop_of_length-le}
-use Rattle.marking.specs.Marking.{are_keys_same}
 use Rattle.marking.specs.Laws.{same_lengths, same_turn}
 use Rattle.marking.proofs.same.Goals as goal
 

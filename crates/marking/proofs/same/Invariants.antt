@@ -1,12 +1,8 @@
 -- What is left to compare decides: the loop's invariant.
-use Rattle.std.proofs.Common.{rules, sym, arith}
-use Prim.Native.Nat.{◌≤◌, ◌<◌, ◌-◌, ◌+◌}
-use Rattle.std.proofs.Math.Path.{◌≡◌, ◌∙◌}
-use borrow.Author.Tests.{eq-eqb, ne_eqb}
+use Prim.Native.Nat.{◌≤◌, ◌-◌}
+use Rattle.std.proofs.Math.Path.{◌≡◌}
 use Rattle.std.specs.Prelude.{length, drop}
-use Rattle.std.proofs.Math.ListN.{drop_of_length-le}
 use Rattle.marking.specs.Marking.{are_keys_same}
-use Rattle.marking.specs.Laws.{same_lengths, same_turn}
 use Rattle.marking.proofs.same.Given as goal
 
 abbrev pub invariant-loop-i : goal.invariant-loop-i

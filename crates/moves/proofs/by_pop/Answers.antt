@@ -1,15 +1,6 @@
 use Rattle.moves.specs.Told.{pop_leads, standing_top, held_top}
 use Rattle.window.specs.Keys.{keys_of}
-use Rattle.replay.specs.Machine.{after}
-use Rattle.costs.specs.declared.Step.TheVariants.{Pop}
 use Rattle.window.specs.Laws.{key_lt}
-use Rattle.std.proofs.Common.{rules}
-use Rattle.moves.proofs.by_pop.Reads as reads
-use Rattle.moves.proofs.by_pop.Lts as lts
-use Rattle.heuristic.proofs.after_pop.Reads as after-pop-reads
-use Rattle.moves.proofs.form.Reads as form-reads
-use Rattle.window.proofs.PackedState.get.Reads as get-reads
-use Rattle.window.proofs.PackedState.pop.Reads as pop-reads
 use Rattle.moves.proofs.by_pop.Goals as goal
 
 pub after_pop-gas-requires : goal.after_pop-gas-requires

@@ -1,10 +1,5 @@
-use Rattle.std.proofs.Common.{arith, rules}
+use Rattle.std.proofs.Common.{arith}
 use Rattle.moves.specs.Told.{push_leads}
-use Rattle.moves.proofs.by_push.Reads as reads
-use Rattle.moves.proofs.by_push.Lts as lts
-use Rattle.heuristic.proofs.after_push.Reads as after-push-reads
-use Rattle.moves.proofs.form.Reads as form-reads
-use Rattle.window.proofs.PackedState.push.Reads as push-reads
 use Rattle.moves.proofs.by_push.Goals as goal
 
 pub after_push-gas-requires : goal.after_push-gas-requires

@@ -1,11 +1,7 @@
-use Rattle.std.proofs.Common.{arith, rules}
+use Rattle.std.proofs.Common.{arith}
 use Rattle.std.specs.Prelude.{refl}
 use Rattle.window.specs.Keys.{keys_length}
 use Rattle.moves.specs.Told.{swap_leads}
-use Rattle.moves.proofs.by_swap.Reads as reads
-use Rattle.moves.proofs.by_swap.Lts as lts
-use Rattle.moves.proofs.form.Reads as form-reads
-use Rattle.window.proofs.PackedState.swap.Reads as swap-reads
 use Rattle.moves.proofs.by_swap.Goals as goal
 
 pub overflow_add-depth : goal.overflow_add-depth

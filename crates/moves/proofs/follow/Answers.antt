@@ -1,15 +1,9 @@
-use Rattle.std.proofs.Common.{arith, rules}
+use Rattle.std.proofs.Common.{arith}
 use Rattle.std.specs.Prelude.{refl}
 use Rattle.window.specs.Keys.{keys_of, keys_length}
 use Rattle.window.specs.Laws.{key_lt}
 use Rattle.moves.specs.Codes.{pop_doable, dup_doable, swap_doable, push_doable}
 use Rattle.moves.specs.Told.{told_pop, told_dup, told_swap, told_push}
-use Rattle.moves.proofs.follow.Reads as reads
-use Rattle.moves.proofs.follow.Lts as lts
-use Rattle.moves.proofs.by_pop.Reads as by-pop-reads
-use Rattle.moves.proofs.by_push.Reads as by-push-reads
-use Rattle.moves.proofs.by_swap.Reads as by-swap-reads
-use Rattle.window.proofs.PackedState.get.Reads as get-reads
 use Rattle.moves.proofs.follow.Goals as goal
 
 pub by_pop-requires : goal.by_pop-requires

@@ -1,7 +1,5 @@
 use Rattle.std.proofs.Math.ListN.{get_or-eq_default}
-use Rattle.std.proofs.Common.{sym, rules}
-use Rattle.moves.proofs.price_at.Reads as reads
-use Rattle.moves.proofs.price_at.Lts as lts
+use Rattle.std.proofs.Common.{sym}
 use Rattle.moves.proofs.price_at.Goals as goal
 
 pub returns-else-i-prices : goal.returns-else-i-prices

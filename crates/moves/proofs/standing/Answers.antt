@@ -1,9 +1,4 @@
 use Rattle.moves.specs.Told.{asking_fit, asking_bare, parent_is}
-use Rattle.std.proofs.Common.{rules}
-use Rattle.moves.proofs.standing.Reads as reads
-use Rattle.moves.proofs.standing.Lts as lts
-use Rattle.heuristic.proofs.bare.Reads as bare-reads
-use Rattle.heuristic.proofs.standing.Reads as standing-reads
 use Rattle.moves.proofs.standing.Goals as goal
 
 pub bare-base-requires : goal.bare-base-requires

@@ -1,10 +1,4 @@
-use Rattle.std.proofs.Common.{arith, rules}
-use Rattle.nodes.proofs.Lemmas.{Walk, walk_start, walk_next, walk_found, walk_none}
-use Rattle.nodes.proofs.find.Reads as reads
-use Rattle.nodes.proofs.find.Lts as lts
-use Rattle.nodes.proofs.head.Reads as head-reads
-use Rattle.nodes.proofs.next.Reads as next-reads
-use Rattle.nodes.proofs.same.Reads as same_Reads
+use Rattle.nodes.proofs.Lemmas.{Walk}
 use Rattle.nodes.proofs.find.Given as goal
 
 abbrev pub invariant-loop-cur : goal.invariant-loop-cur

@@ -1,9 +1,5 @@
-use Rattle.std.proofs.Common.{arith, rules}
+use Rattle.std.proofs.Common.{rules}
 use Rattle.nodes.proofs.Lemmas.{bucket_below}
-use Rattle.nodes.proofs.head.Reads as reads
-use Rattle.nodes.proofs.head.Lts as lts
-use Rattle.nodes.proofs.bucket.Reads as bucket-reads
-use Rattle.nodes.proofs.index.Reads as index_Reads
 use Rattle.nodes.proofs.head.Goals as goal
 
 pub offset_bounds-heads-bucket : goal.offset_bounds-heads-bucket

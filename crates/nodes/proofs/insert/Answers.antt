@@ -1,9 +1,5 @@
 use Rattle.nodes.proofs.Lemmas.{bucket_below, wrote, inserted_chained}
 use Rattle.std.proofs.Common.{rules}
-use Rattle.nodes.proofs.insert.Reads as reads
-use Rattle.nodes.proofs.insert.Lts as lts
-use Rattle.nodes.proofs.bucket.Reads as bucket-reads
-use Rattle.nodes.proofs.put.Reads as put_reads
 use Rattle.nodes.proofs.insert.Goals as goal
 
 pub offset_bounds-heads-b : goal.offset_bounds-heads-b

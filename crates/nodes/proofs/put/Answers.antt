@@ -1,6 +1,4 @@
-use Rattle.std.proofs.Common.{arith, length-set, rules}
-use Rattle.nodes.proofs.put.Reads as reads
-use Rattle.nodes.proofs.put.Lts as lts
+use Rattle.std.proofs.Common.{arith, length-set}
 use Rattle.nodes.proofs.put.Goals as goal
 
 pub bounds-nodes-at-2 : goal.bounds-nodes-at-2

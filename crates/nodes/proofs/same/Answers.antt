@@ -1,8 +1,5 @@
 use Rattle.nodes.proofs.Lemmas.{both_left}
 use borrow.Author.Tests.{eq-eqb, ne_eqb}
-use Rattle.std.proofs.Common.{rules}
-use Rattle.nodes.proofs.same.Reads as reads
-use Rattle.nodes.proofs.same.Lts as lts
 use Rattle.nodes.proofs.same.Goals as goal
 
 pub returns-then-nodes-i : goal.returns-then-nodes-i

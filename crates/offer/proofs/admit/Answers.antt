@@ -1,9 +1,5 @@
 use Rattle.offer.proofs.Offering.{all_inside, sought_node, admitted, not_admitted}
 use Rattle.std.proofs.Common.{rules}
-use Rattle.lists.proofs.find.Reads as find-reads
-use Rattle.lists.proofs.store.Reads as store-reads
-use Rattle.offer.proofs.cheaper.Reads as cheaper-reads
-use Rattle.offer.proofs.node_for.Reads as node-for-reads
 use Rattle.offer.proofs.admit.Goals as goal
 
 pub cheaper-requires : goal.cheaper-requires

@@ -1,6 +1,4 @@
 use Rattle.offer.proofs.Laws.{better_none, inside_at, better_some}
-use Rattle.std.proofs.Common.{rules}
-use Rattle.nodes.proofs.cost.Reads as cost-reads
 use Rattle.offer.proofs.cheaper.Goals as goal
 
 pub returns-in_default : goal.returns-in_default

@@ -1,5 +1,4 @@
 use Rattle.offer.proofs.Laws.{cut_have, cut_none}
-use Rattle.std.proofs.Common.{rules}
 use Rattle.offer.proofs.cut.Goals as goal
 
 pub returns-then-held : goal.returns-then-held

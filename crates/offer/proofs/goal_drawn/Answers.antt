@@ -1,5 +1,4 @@
 use Rattle.offer.proofs.Laws.{goal_kept, goal_better, goal_first}
-use Rattle.std.proofs.Common.{rules}
 use Rattle.offer.proofs.goal_drawn.Goals as goal
 
 pub returns-then-held-g : goal.returns-then-held-g

@@ -1,9 +1,4 @@
 use Rattle.offer.proofs.Offering.{offer_cut, offer_stored, offer_kept}
-use Rattle.std.proofs.Common.{rules}
-use Rattle.lists.proofs.push.Reads as push-reads
-use Rattle.offer.proofs.add.Reads as add_reads
-use Rattle.offer.proofs.admit.Reads as admit-reads
-use Rattle.offer.proofs.cut.Reads as cut-reads
 use Rattle.offer.proofs.offer.Goals as goal
 
 pub returns-then-cut : goal.returns-then-cut

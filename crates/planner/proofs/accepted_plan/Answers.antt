@@ -1,20 +1,19 @@
 -- The start is the goal; or the builders' plan is given; or the search's answer.
-use Prim.Native.Nat.{ℕ, ◌≤◌, max}
-use Rattle.std.specs.Prelude.{Bool, true, false, List, refl, eqb, length}
-use Rattle.std.proofs.Math.Path.{◌≡◌, ◌∙◌}
-use Rattle.std.proofs.Common.{ap, sym, arith, rules}
+use Prim.Native.Nat.{ℕ}
+use Rattle.std.specs.Prelude.{length}
+use Rattle.std.proofs.Math.Path.{◌∙◌}
+use Rattle.std.proofs.Common.{ap, sym, arith}
 use Rattle.costs.specs.declared.Cost.{Cost}
 use Rattle.costs.specs.Laws.{kinds_length}
 use Rattle.replay.specs.Machine.{ruled}
-use Rattle.window.specs.Pack.{pack}
 use Rattle.algebra.specs.GasBytes.{gas_bytes}
 use Rattle.astar.specs.Planner.{Answer as Answered, searched}
 use Rattle.problem.specs.Problem.{problem_of}
-use Rattle.incumbent.specs.Hand.{Held, held_of}
+use Rattle.incumbent.specs.Hand.{Held}
 use Rattle.planner.specs.declared.Answer.{Answer}
-use Rattle.planner.specs.Refusal.{Asked, Lent, asked, allowances, lent}
-use Rattle.planner.specs.Planned.{answered, listed, plan_held, before, question_of, given}
-use Rattle.planner.specs.Accepted.{Accepted, keys_below, start_window, goal_window}
+use Rattle.planner.specs.Refusal.{asked, allowances, lent}
+use Rattle.planner.specs.Planned.{listed, plan_held, before, question_of, given}
+use Rattle.planner.specs.Accepted.{keys_below, start_window, goal_window}
 use Rattle.planner.specs.Cases.{still, at_goal_lem, no_expansion, by_search, held_is_lem}
 use Rattle.planner.proofs.accepted_plan.Goals as goal
 

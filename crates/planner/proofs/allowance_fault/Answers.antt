@@ -1,4 +1,3 @@
-use Rattle.std.proofs.Common.{rules}
 use Rattle.planner.specs.Refusal.{allowance_fault}
 use Rattle.planner.proofs.allowance_fault.Goals as goal
 

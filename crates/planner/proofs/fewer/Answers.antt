@@ -1,7 +1,7 @@
 use Prim.Native.Nat.{ℕ, ◌+◌, ◌-◌, ◌≤◌, max}
 use Rattle.std.specs.Prelude.{Bool, true, false, refl, ltb}
 use Rattle.std.proofs.Math.Path.{◌≡◌}
-use Rattle.std.proofs.Common.{sym, arith, rules, ltb-true, ltb-false, lt-ltb, le-ltb}
+use Rattle.std.proofs.Common.{sym, arith, ltb-true, ltb-false, lt-ltb, le-ltb}
 use Rattle.planner.proofs.fewer.Goals as goal
 
 shifted : (n m : ℕ) → 50 ≤ n → ltb (n - 50) m ≡ ltb n (m + 50)

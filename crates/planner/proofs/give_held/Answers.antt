@@ -1,5 +1,5 @@
 -- Nothing at origin 0; else the builders' steps are copied, and their highest window is told.
-use Rattle.std.proofs.Common.{rules, length-take-le, sym, arith}
+use Rattle.std.proofs.Common.{length-take-le, sym, arith}
 use Rattle.planner.specs.Cases.{gives_none, gives_plan}
 use Rattle.planner.proofs.give_held.Goals as goal
 

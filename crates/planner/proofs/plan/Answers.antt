@@ -1,11 +1,11 @@
 -- A refusal by the table, with every list as it was; else the accepted planning.
-use Rattle.std.specs.Prelude.{ℕ, refl, length}
+use Rattle.std.specs.Prelude.{length}
 use Rattle.std.proofs.Math.Path.{◌≡◌, ◌∙◌}
-use Rattle.std.proofs.Common.{ap, sym, subst, rules}
-use Rattle.replay.specs.Machine.{Rules, plain_rules, above, ruled}
+use Rattle.std.proofs.Common.{ap, sym, subst}
+use Rattle.replay.specs.Machine.{Rules, plain_rules, above}
 use Rattle.replay.specs.Beneath.{narrowed}
 use Rattle.planner.specs.declared.Answer.{Answer}
-use Rattle.planner.specs.Refusal.{Asked, Lent, asked, allowances, lent, ruled_by, narrow, plan_refusal}
+use Rattle.planner.specs.Refusal.{asked, allowances, lent, ruled_by, narrow, plan_refusal}
 use Rattle.planner.specs.Accepted.{Accepted, accepted}
 use Rattle.planner.specs.Planned.{answered, given}
 use Rattle.planner.specs.Cases.{when_refused, when_accepted, given_accepted, work_same, work_free}

@@ -1,4 +1,4 @@
-use Rattle.std.proofs.Common.{rules, ap}
+use Rattle.std.proofs.Common.{ap}
 use Rattle.replay.specs.Machine.{Rules, above, ruled}
 use Rattle.planner.specs.Refusal.{asked, allowances, lent, assembled}
 use Rattle.planner.proofs.refusal.Goals as goal

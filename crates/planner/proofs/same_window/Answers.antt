@@ -1,5 +1,4 @@
 -- The windows' numbers are compared.
-use Rattle.std.proofs.Common.{rules}
 use Rattle.std.proofs.Math.Path.{◌∙◌}
 use Rattle.planner.proofs.same_window.Goals as goal
 

@@ -1,4 +1,3 @@
-use Rattle.std.proofs.Common.{rules}
 use Rattle.planner.specs.Refusal.{short_lists}
 use Rattle.planner.proofs.short_lists.Goals as goal
 

@@ -1,5 +1,4 @@
 use Rattle.std.proofs.Math.Path.{◌∙◌}
-use Rattle.std.proofs.Common.{rules}
 use Rattle.planner.proofs.table_rows.Goals as goal
 
 pub returns : goal.returns

@@ -1,4 +1,3 @@
-use Rattle.std.proofs.Common.{rules}
 use Rattle.planner.specs.Refusal.{over_length}
 use Rattle.planner.proofs.too_long.Goals as goal
 

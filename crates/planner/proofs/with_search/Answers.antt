@@ -1,9 +1,9 @@
 -- The search's plan, or the builders' where it has none.
-use Prim.Native.Nat.{ℕ, ◌≤◌, max}
+use Prim.Native.Nat.{ℕ}
 use Rattle.std.specs.Prelude.{eqb, Bool, true, false, not, List, refl, length, take}
 use Rattle.std.proofs.Math.Option.{Option}
 use Rattle.std.proofs.Math.Path.{◌≡◌, ◌∙◌}
-use Rattle.std.proofs.Common.{ap, sym, arith, length-take-le, rules}
+use Rattle.std.proofs.Common.{ap, sym, arith, length-take-le}
 use Rattle.replay.specs.Machine.{ruled, highest}
 use Rattle.algebra.specs.GasBytes.{gas_bytes}
 use Rattle.astar.specs.Planner.{Answer as Answered, Found, given as isGiven, searched}
@@ -21,8 +21,8 @@ use Rattle.planner.specs.declared.Answer.{Answer}
 use Rattle.planner.specs.declared.Allowances.{Allowances}
 use Rattle.incumbent.specs.declared.Hand.{Hand}
 use Rattle.replay.specs.declared.SearchCfg.{SearchCfg}
-use Rattle.planner.specs.Refusal.{Asked, Lent, asked, allowances, lent}
-use Rattle.planner.specs.Accepted.{Accepted, search_question, search_start, search_room}
+use Rattle.planner.specs.Refusal.{asked, allowances, lent}
+use Rattle.planner.specs.Accepted.{search_question, search_start, search_room}
 use Rattle.planner.specs.Cases.{found_by_search, held_given, searched_found, searched_lost, nothing_written}
 use Rattle.planner.proofs.with_search.Goals as goal
 

@@ -1,5 +1,5 @@
 -- Each answer, by the step and the tests that led there.
-use Rattle.std.proofs.Common.{rules, sym, lt-ltb, le-ltb}
+use Rattle.std.proofs.Common.{sym, lt-ltb, le-ltb}
 use Rattle.std.proofs.Math.Path.{◌∙◌}
 use Rattle.replay.specs.Machine.{allows}
 use Rattle.replay.proofs.allowed.Goals as goal

@@ -1,5 +1,5 @@
 -- The run, whose end window is written.
-use Rattle.std.proofs.Common.{rules, sym, ap, arith}
+use Rattle.std.proofs.Common.{sym, ap, arith}
 use Rattle.std.proofs.Math.Path.{◌≡◌, ◌∙◌}
 use Rattle.window.specs.Keys.{keys_of, keys_length, held_keys, held_window}
 use Rattle.replay.specs.Machine.{ruled, ran_on, stops, ends}

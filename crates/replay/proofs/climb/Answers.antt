@@ -1,5 +1,5 @@
 -- The step that the code stands for, tested on the length and carried out on it.
-use Rattle.std.proofs.Common.{rules, sym}
+use Rattle.std.proofs.Common.{sym}
 use Rattle.std.specs.Prelude.{Bool}
 use Rattle.std.proofs.Math.Path.{◌≡◌, ◌∙◌}
 use Prim.Native.Nat.{ℕ, ◌≤◌}

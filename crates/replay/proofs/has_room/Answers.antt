@@ -1,4 +1,3 @@
-use Rattle.std.proofs.Common.{rules}
 use Rattle.std.specs.Prelude.{refl}
 use Rattle.replay.specs.Machine.{room}
 use Rattle.replay.proofs.has_room.Goals as goal

@@ -1,9 +1,9 @@
 -- What the rest of the steps reach from the window so far decides: the loop's invariant has such a window of the length in hand.
-use Rattle.std.proofs.Common.{rules, sym, ap, arith}
-use Prim.Native.Nat.{ℕ, ◌<◌, ◌≤◌, ◌+◌, ◌-◌, max}
+use Rattle.std.proofs.Common.{sym, ap, arith}
+use Prim.Native.Nat.{ℕ, ◌<◌, ◌≤◌, ◌+◌, max}
 use Rattle.std.proofs.Math.Path.{◌≡◌, ◌∙◌}
 use Rattle.std.specs.Prelude.{refl, List}
-use Rattle.std.proofs.Math.Option.{Option, some, none}
+use Rattle.std.proofs.Math.Option.{some, none}
 use Rattle.std.proofs.Math.ListN as list
 use Rattle.costs.specs.Step.{decoded}
 use Rattle.replay.specs.Machine as machine

@@ -1,14 +1,10 @@
 -- What the rest of the steps reach from the window so far decides: the loop's invariant has such a window of the length in hand.
-use Rattle.std.proofs.Common.{rules, sym, ap, arith}
-use Prim.Native.Nat.{ℕ, ◌<◌, ◌≤◌, ◌+◌, ◌-◌, max}
-use Rattle.std.proofs.Math.Path.{◌≡◌, ◌∙◌}
-use Rattle.std.specs.Prelude.{refl, List}
-use Rattle.std.proofs.Math.Option.{Option, some, none}
+use Prim.Native.Nat.{ℕ, ◌≤◌, ◌-◌, max}
+use Rattle.std.proofs.Math.Path.{◌≡◌}
+use Rattle.std.specs.Prelude.{List}
 use Rattle.std.proofs.Math.ListN as list
-use Rattle.costs.specs.Step.{decoded}
 use Rattle.replay.specs.Machine as machine
 use Rattle.replay.specs.Machine.{Rules, ruled}
-use Rattle.replay.specs.Highest.{climb_on, climbs, climbs_not, highest_turn_stops, highest_turn_goes, highest_ends, highest_start}
 use Rattle.replay.proofs.highest.Given as goal
 
 -- after i codes: a window of n keys, the greatest length so far, and what the other codes reach from there

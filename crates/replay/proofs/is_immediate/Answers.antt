@@ -1,4 +1,3 @@
-use Rattle.std.proofs.Common.{rules}
 use borrow.Author.Tests.{lt-ltb, le-ltb, eq-eqb, ne_eqb}
 use Rattle.replay.specs.Machine.{immediate}
 use Rattle.replay.proofs.is_immediate.Goals as goal

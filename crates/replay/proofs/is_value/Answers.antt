@@ -1,4 +1,4 @@
-use Rattle.std.proofs.Common.{rules, lt-ltb, le-ltb}
+use Rattle.std.proofs.Common.{lt-ltb, le-ltb}
 use Rattle.replay.specs.Machine.{value}
 use Rattle.replay.proofs.is_value.Goals as goal
 

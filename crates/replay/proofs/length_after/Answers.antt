@@ -1,5 +1,5 @@
 -- One key fewer, one more, or as many, by the step that each arm is given.
-use Rattle.std.proofs.Common.{rules, arith}
+use Rattle.std.proofs.Common.{arith}
 use Rattle.replay.specs.Laws.{at_step}
 use Rattle.replay.proofs.length_after.Goals as goal
 

@@ -1,10 +1,10 @@
 -- What each step asks of the window, and the window after it, by the step that each arm is given.
-use Rattle.std.proofs.Common.{rules, sym, ap, arith, length-drop, length-set}
+use Rattle.std.proofs.Common.{arith, length-drop, length-set}
 use Prim.Native.Nat.{ℕ, ◌≤◌}
 use Rattle.std.proofs.Math.Path.{◌≡◌, ◌∙◌}
 use Rattle.std.specs.Prelude.{List, length}
 use Rattle.window.specs.declared.PackedState.{PackedState}
-use Rattle.window.specs.State.{Held, swapped}
+use Rattle.window.specs.State.{Held}
 use Rattle.window.specs.Keys.{keys_of, Window, keys_length, held_keys, held_window, held_first}
 use Rattle.replay.specs.Machine.{after}
 use Rattle.replay.specs.Laws.{at_step}

@@ -1,5 +1,4 @@
 -- The window's length by its function, the rest as it was.
-use Rattle.std.proofs.Common.{rules}
 use Rattle.replay.proofs.narrowed.Goals as goal
 
 pub returns : goal.returns

@@ -1,9 +1,6 @@
 -- The count so far and what is left to count make the whole: the loop's invariant.
-use Rattle.std.proofs.Common.{rules, ap, arith}
-use Prim.Native.Nat.{◌≤◌, ◌-◌, ◌+◌}
-use Rattle.std.proofs.Math.Path.{◌≡◌}
+use Rattle.std.proofs.Common.{ap, arith}
 use borrow.Author.Tests.{eq-eqb, ne_eqb}
-use Rattle.std.specs.Prelude.{length, drop}
 use Rattle.std.proofs.Math.ListN.{drop_of_length-le}
 use Rattle.costs.specs.Table.{count_of}
 use Rattle.costs.specs.Laws.{count_of_turn}

@@ -1,4 +1,4 @@
-use Rattle.std.proofs.Common.{rules, lt-ltb, le-ltb}
+use Rattle.std.proofs.Common.{lt-ltb, le-ltb}
 use Rattle.replay.specs.Replay.{reach_fault}
 use Rattle.replay.proofs.reach_fault.Goals as goal
 

@@ -1,5 +1,4 @@
 -- The rows of the table, each by what its function ensures.
-use Rattle.std.proofs.Common.{rules}
 use Rattle.replay.specs.Replay.{replay_table}
 use Rattle.replay.proofs.refusal.Goals as goal
 

@@ -1,14 +1,12 @@
 -- What is left to replay on the window so far decides: the loop's invariant.
-use Rattle.std.proofs.Common.{rules, sym, ap, arith}
-use Prim.Native.Nat.{ℕ, ◌≤◌, ◌+◌, ◌-◌}
+use Rattle.std.proofs.Common.{sym, ap, arith}
+use Prim.Native.Nat.{ℕ, ◌+◌}
 use Rattle.std.proofs.Math.Path.{◌≡◌, ◌∙◌}
-use Rattle.std.specs.Prelude.{List, length, drop}
+use Rattle.std.specs.Prelude.{List, drop}
 use Rattle.std.proofs.Math.Option.{Option, some, none}
-use Rattle.std.proofs.Math.ListN.{get_or}
-use Rattle.costs.specs.Step.{decoded}
-use Rattle.replay.specs.Machine.{ruled, step_on, onward, ran_on}
+use Rattle.replay.specs.Machine.{ruled, onward, ran_on}
 use Rattle.replay.specs.Laws.{ran_turn, ran_ends}
-use Rattle.window.specs.Keys.{keys_of, Window}
+use Rattle.window.specs.Keys.{keys_of}
 use Rattle.replay.proofs.run.Lts
 use Rattle.replay.proofs.run.Reads
 use Rattle.replay.proofs.run.Tie

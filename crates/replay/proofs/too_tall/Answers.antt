@@ -1,5 +1,5 @@
 -- Tested without a sum.
-use Rattle.std.proofs.Common.{rules, sym, arith}
+use Rattle.std.proofs.Common.{sym, arith}
 use Rattle.replay.specs.Beneath.{beneath_over, tall_test}
 use Rattle.replay.proofs.too_tall.Goals as goal
 

@@ -1,5 +1,5 @@
 -- The step that the code stands for, tested and carried out.
-use Rattle.std.proofs.Common.{rules, sym, ap}
+use Rattle.std.proofs.Common.{sym, ap}
 use Prim.Native.Nat.{ℕ, ◌≤◌}
 use Rattle.std.proofs.Math.Path.{◌≡◌, ◌∙◌}
 use Rattle.std.specs.Prelude.{Bool, length}

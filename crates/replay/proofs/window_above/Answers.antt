@@ -1,5 +1,5 @@
 -- The smaller of two numbers, the second of which is no less than 0.
-use Rattle.std.proofs.Common.{rules, arith}
+use Rattle.std.proofs.Common.{arith}
 use Rattle.replay.specs.Beneath.{window_above}
 use Rattle.replay.proofs.window_above.Goals as goal
 

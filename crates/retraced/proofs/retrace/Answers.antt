@@ -1,8 +1,8 @@
 -- The lists that replay leaves are those that stepping back takes.
-use Rattle.std.proofs.Common.{rules, sym, ap, arith, length-take-le}
-use Prim.Native.Nat.{ℕ, ◌≤◌}
+use Rattle.std.proofs.Common.{sym, ap, arith, length-take-le}
+use Prim.Native.Nat.{ℕ}
 use Rattle.std.proofs.Math.Path.{◌∙◌}
-use Rattle.std.specs.Prelude.{length, take}
+use Rattle.std.specs.Prelude.{take}
 use Rattle.replay.specs.Machine.{plain_rules, above}
 use Rattle.rewind.specs.Rewind.{rewound}
 use Rattle.rewind.specs.Round.{end_within, popped_within, takes_back, takes_none}

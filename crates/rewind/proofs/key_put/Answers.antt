@@ -1,5 +1,5 @@
 -- The key by the step that each arm is given.
-use Rattle.std.proofs.Common.{rules, subst}
+use Rattle.std.proofs.Common.{subst}
 use Rattle.std.specs.Prelude.{length}
 use Rattle.costs.specs.declared.Step.{Step}
 use Rattle.window.specs.Keys.{keys_of}

@@ -1,5 +1,5 @@
 -- The last popped key put back, if the window may grow.
-use Rattle.std.proofs.Common.{rules, sym, ap, arith}
+use Rattle.std.proofs.Common.{sym, ap, arith}
 use Rattle.std.proofs.Math.Path.{◌≡◌, ◌∙◌}
 use Prim.Native.Nat.{◌≤◌, ◌-◌}
 use Rattle.std.specs.Prelude.{true, length}

@@ -1,5 +1,4 @@
 -- The rows of the table, each by what its function ensures.
-use Rattle.std.proofs.Common.{rules}
 use Rattle.rewind.specs.Rewind.{rewind_table}
 use Rattle.rewind.proofs.refusal.Goals as goal
 

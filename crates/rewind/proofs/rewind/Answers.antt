@@ -1,5 +1,5 @@
 -- A refusal by the table; else the walk back, whose start is written, or 11.
-use Rattle.std.proofs.Common.{rules, sym, ap, arith}
+use Rattle.std.proofs.Common.{sym, ap, arith}
 use Rattle.std.proofs.Math.Path.{◌≡◌, ◌∙◌}
 use Rattle.std.specs.Prelude.{List, length}
 use Rattle.std.proofs.Math.Option.{Option}

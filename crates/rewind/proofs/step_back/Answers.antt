@@ -1,5 +1,5 @@
 -- The step that the code stands for.
-use Rattle.std.proofs.Common.{rules, sym, arith}
+use Rattle.std.proofs.Common.{sym, arith}
 use Rattle.std.proofs.Math.Path.{◌∙◌}
 use Rattle.rewind.proofs.step_back.Goals as goal
 

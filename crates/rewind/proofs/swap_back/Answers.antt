@@ -1,5 +1,5 @@
 -- The same Swap, tested and carried out.
-use Rattle.std.proofs.Common.{rules, sym, ap, arith}
+use Rattle.std.proofs.Common.{sym, ap, arith}
 use Rattle.std.proofs.Math.Path.{◌≡◌, ◌∙◌}
 use Rattle.std.specs.Prelude.{length}
 use Rattle.window.specs.Keys.{keys_of}

@@ -1,5 +1,5 @@
 -- The top key taken off, and the step tested on what is below.
-use Rattle.std.proofs.Common.{rules, sym, ap, arith}
+use Rattle.std.proofs.Common.{sym, ap, arith}
 use Rattle.std.proofs.Math.Path.{◌≡◌, ◌∙◌}
 use Prim.Native.Nat.{ℕ, ◌-◌, ◌<◌}
 use Rattle.std.proofs.Math.Bool.{◌&&◌}

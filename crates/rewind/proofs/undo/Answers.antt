@@ -1,5 +1,4 @@
 -- Each kind of step by its own function.
-use Rattle.std.proofs.Common.{rules}
 use Rattle.std.proofs.Math.Path.{◌∙◌}
 use Rattle.rewind.specs.Walk.{back_over}
 use Rattle.rewind.proofs.undo.Goals as goal

@@ -1,11 +1,8 @@
 -- What is left of the walk decides: the loop's invariant.
-use Rattle.std.proofs.Common.{rules, sym, arith}
-use Prim.Native.Nat.{◌-◌}
+use Rattle.std.proofs.Common.{sym, arith}
 use Rattle.std.proofs.Math.Option.{none}
 use Rattle.std.proofs.lemmas.Bool.{not-true, not-false}
-use Rattle.window.specs.Keys.{keys_of}
-use Rattle.replay.specs.Machine.{ruled}
-use Rattle.rewind.specs.Code.{Walking, walking_first, walking_turn, walking_next, walking_last}
+use Rattle.rewind.specs.Code.{walking_first, walking_turn, walking_next, walking_last}
 use Rattle.rewind.proofs.walk_back.Goals as goal
 
 pub loop-i-init : goal.loop-i-init

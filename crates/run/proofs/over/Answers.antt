@@ -1,5 +1,4 @@
 use Rattle.run.proofs.Laws.{or_first, or_second}
-use Rattle.std.proofs.Common.{rules}
 use Rattle.run.proofs.over.Goals as goal
 
 pub returns-then-room-n : goal.returns-then-room-n

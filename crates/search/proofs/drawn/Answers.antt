@@ -1,7 +1,5 @@
-use Rattle.std.proofs.Common.{arith, rules}
+use Rattle.std.proofs.Common.{arith}
 use Rattle.search.proofs.Expanding.{cost_below, drawn_is}
-use Rattle.heuristic.proofs.count_window.Reads as count-window-reads
-use Rattle.search.proofs.standing.Reads as standing-reads
 use Rattle.search.proofs.drawn.Goals as goal
 
 pub overflow_sub-result : goal.overflow_sub-result

@@ -1,11 +1,8 @@
 use Rattle.search.specs.Table.{question_of}
 use Rattle.heuristic.specs.Counts.{count_none}
 use Rattle.std.specs.Prelude.{refl}
-use Rattle.std.proofs.Common.{arith, rules}
+use Rattle.std.proofs.Common.{arith}
 use Rattle.search.proofs.Expanding.{window_held, codes_fit, table_long, all_steps_coded, expanded_all}
-use Rattle.search.proofs.offers.Reads as offers-reads
-use Rattle.search.proofs.drawn.Reads as drawn-reads
-use Rattle.search.proofs.steps_of.Reads as steps-of-reads
 use Rattle.search.proofs.expand.Goals as goal
 
 pub steps_of-n-requires : goal.steps_of-n-requires

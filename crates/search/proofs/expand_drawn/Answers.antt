@@ -1,6 +1,3 @@
-use Rattle.std.proofs.Common.{rules}
-use Rattle.search.proofs.expand.Reads as expand-reads
-use Rattle.search.proofs.last_depth.Reads as last-depth-reads
 use Rattle.search.proofs.expand_drawn.Goals as goal
 
 pub expand-requires : goal.expand-requires

@@ -1,6 +1,4 @@
 use Rattle.search.proofs.Laws.{followed}
-use Rattle.std.proofs.Common.{rules}
-use Rattle.moves.proofs.follow.Reads as follow-reads
 use Rattle.search.proofs.follow.Goals as goal
 
 pub follow-m-requires : goal.follow-m-requires

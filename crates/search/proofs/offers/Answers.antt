@@ -1,9 +1,5 @@
 use Rattle.std.proofs.Common.{arith, rules}
-use Rattle.search.proofs.Laws.{Offering, offers_start, offers_again, offers_end, offer_nodes, offer_list, all_coded}
-use Prim.Native.Nat.{◌-◌}
-use Rattle.search.specs.Table.{question_of}
-use Rattle.offer.proofs.offer.Reads as offer-reads
-use Rattle.search.proofs.follow.Reads as follow-reads
+use Rattle.search.proofs.Laws.{offers_start, offers_again, offers_end, offer_nodes, offer_list, all_coded}
 use Rattle.search.proofs.offers.Goals as goal
 
 pub loop-i-init : goal.loop-i-init

@@ -1,6 +1,4 @@
 use Rattle.search.proofs.Expanding.{asking}
-use Rattle.std.proofs.Common.{rules}
-use Rattle.moves.proofs.standing.Reads as standing-reads
 use Rattle.search.proofs.standing.Goals as goal
 
 pub standing-requires : goal.standing-requires

@@ -1,6 +1,4 @@
 use Rattle.search.proofs.Expanding.{parts_ready, parts_told}
-use Rattle.std.proofs.Common.{rules}
-use Rattle.successors.proofs.expand.Reads as expand-reads
 use Rattle.search.proofs.steps_of.Goals as goal
 
 pub expand-requires : goal.expand-requires

@@ -1,10 +1,6 @@
 use Rattle.search.specs.Table.{question_of}
 use Rattle.solve.proofs.Laws.{kept_none, sought_none, piled_none, begun}
 use Rattle.std.proofs.Common.{rules}
-use Rattle.lists.proofs.push.Reads as push-reads
-use Rattle.lists.proofs.store.Reads as store-reads
-use Rattle.solve.proofs.estimate.Reads as estimate-reads
-use Rattle.solve.proofs.first_node.Reads as first-node-reads
 use Rattle.solve.proofs.begin.Goals as goal
 
 pub store-n-requires : goal.store-n-requires

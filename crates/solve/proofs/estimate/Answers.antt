@@ -1,8 +1,5 @@
 use Rattle.heuristic.specs.Counts.{count_none}
 use Rattle.solve.proofs.Laws.{estimated}
-use Rattle.std.proofs.Common.{rules}
-use Rattle.costs.proofs.Cost.packed.Reads as packed-reads
-use Rattle.search.proofs.standing.Reads as standing-reads
 use Rattle.solve.proofs.estimate.Goals as goal
 
 pub standing-gas-requires : goal.standing-gas-requires

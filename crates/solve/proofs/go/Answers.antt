@@ -1,8 +1,6 @@
-use Rattle.std.proofs.Common.{arith, rules}
+use Rattle.std.proofs.Common.{arith}
 use Rattle.search.proofs.Expanding.{window_held}
 use Rattle.solve.proofs.Laws.{roomy_still, start_waits, went}
-use Rattle.run.proofs.run.Reads as run-reads
-use Rattle.solve.proofs.begin.Reads as begin-reads
 use Rattle.solve.proofs.go.Goals as goal
 
 pub begin-sizes-requires : goal.begin-sizes-requires

@@ -1,8 +1,4 @@
 use Rattle.solve.proofs.Answer.{outcome_lost, placed_steps, outcome_steps}
-use Rattle.std.proofs.Common.{rules}
-use Rattle.costs.proofs.Cost.unpacked.Reads as unpacked-reads
-use Rattle.costs.proofs.Cost.zero.Reads as zero-reads
-use Rattle.costs.proofs.cost_for_steps.Reads as cost-for-steps-reads
 use Rattle.solve.proofs.outcome_of.Goals as goal
 
 pub returns-in_default : goal.returns-in_default

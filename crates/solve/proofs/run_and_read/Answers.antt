@@ -1,7 +1,5 @@
-use Rattle.std.proofs.Common.{arith, rules}
+use Rattle.std.proofs.Common.{arith}
 use Rattle.solve.proofs.Laws.{all_planned}
-use Rattle.solve.proofs.go.Reads as go-reads
-use Rattle.solve.proofs.read_steps.Reads as read-steps-reads
 use Rattle.solve.proofs.run_and_read.Goals as goal
 
 pub go-left-requires : goal.go-left-requires

@@ -1,8 +1,4 @@
 use Rattle.solve.proofs.Answer.{window_of, searched_from}
-use Rattle.std.proofs.Common.{rules}
-use Rattle.solve.proofs.search_table.Reads as search-table-reads
-use Rattle.table.proofs.prepare.Reads as prepare-reads
-use Rattle.window.proofs.PackedState.from_ids.Reads as from-ids-reads
 use Rattle.solve.proofs.search_from.Goals as goal
 
 pub search_table-requires : goal.search_table-requires

@@ -1,8 +1,4 @@
 use Rattle.solve.proofs.Answer.{placed_all, searched_all}
-use Rattle.std.proofs.Common.{rules}
-use Rattle.costs.proofs.Cost.packed.Reads as packed-reads
-use Rattle.solve.proofs.outcome_of.Reads as outcome-of-reads
-use Rattle.solve.proofs.run_and_read.Reads as run-and-read-reads
 use Rattle.solve.proofs.search_table.Goals as goal
 
 pub run_and_read-r-requires : goal.run_and_read-r-requires

@@ -1,9 +1,6 @@
 -- The keys looked at so far: the loop's invariant.
 use Rattle.std.proofs.Common.{rules, arith}
-use Prim.Native.Nat.{◌≤◌, ◌-◌}
-use Rattle.std.proofs.Math.Path.{◌≡◌}
-use Rattle.std.specs.Prelude.{length}
-use Rattle.star_swap.specs.Ended.{Swept, swept_first, swept_turn, swept_end}
+use Rattle.star_swap.specs.Ended.{swept_first, swept_turn, swept_end}
 use Rattle.star_swap.proofs.any_arc.Goals as goal
 
 pub loop-i-init : goal.loop-i-init

@@ -1,9 +1,8 @@
 -- The keys looked at so far: the loop's invariant.
-use Rattle.std.proofs.Common.{rules, arith}
 use Prim.Native.Nat.{◌≤◌, ◌-◌}
 use Rattle.std.proofs.Math.Path.{◌≡◌}
 use Rattle.std.specs.Prelude.{length}
-use Rattle.star_swap.specs.Ended.{Swept, swept_first, swept_turn, swept_end}
+use Rattle.star_swap.specs.Ended.{Swept}
 use Rattle.star_swap.proofs.any_arc.Given as goal
 
 abbrev pub invariant-loop-i : goal.invariant-loop-i

@@ -1,6 +1,5 @@
 -- The rows of the table, each by what its function ensures.
 use Rattle.star_swap.specs.Refusal.{builder_refusal}
-use Rattle.std.proofs.Common.{rules}
 use Rattle.star_swap.proofs.builder_refusal.Goals as goal
 
 pub returns : goal.returns

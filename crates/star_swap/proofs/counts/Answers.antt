@@ -1,9 +1,7 @@
 -- Each key below 64 that is passed is counted.
-use Prim.Native.Nat.{◌-◌}
-use Rattle.std.proofs.Common.{arith, rules}
-use Rattle.std.specs.Prelude.{length}
+use Rattle.std.proofs.Common.{arith}
 use Rattle.std.proofs.Math.ListN.{get_or}
-use Rattle.star_swap.specs.Check.{Counting, counting_first, counting_next, counting_high, counting_last}
+use Rattle.star_swap.specs.Check.{counting_first, counting_next, counting_high, counting_last}
 use Rattle.star_swap.proofs.counts.Goals as goal
 
 pub loop-i-init : goal.loop-i-init

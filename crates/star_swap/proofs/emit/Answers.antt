@@ -1,8 +1,7 @@
 -- What is written and what is left of `out` is the whole.
 use Rattle.std.specs.Prelude.{refl}
-use Prim.Native.Nat.{◌≤◌, ◌-◌}
-use Rattle.std.proofs.Common.{arith, rules}
-use Rattle.star_swap.specs.StarCode.{EmitInv, emit_step, emit_end}
+use Rattle.std.proofs.Common.{arith}
+use Rattle.star_swap.specs.StarCode.{emit_step, emit_end}
 use Rattle.star_swap.proofs.emit.Goals as goal
 
 pub loop-j-init : goal.loop-j-init

@@ -1,8 +1,6 @@
 -- What is written and what is left of `out` is the whole.
-use Rattle.std.specs.Prelude.{refl}
-use Prim.Native.Nat.{◌≤◌, ◌-◌}
-use Rattle.std.proofs.Common.{arith, rules}
-use Rattle.star_swap.specs.StarCode.{EmitInv, emit_step, emit_end}
+use Prim.Native.Nat.{◌≤◌}
+use Rattle.star_swap.specs.StarCode.{EmitInv}
 use Rattle.star_swap.proofs.emit.Given as goal
 
 abbrev pub invariant-loop-j : goal.invariant-loop-j

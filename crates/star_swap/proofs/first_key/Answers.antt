@@ -1,5 +1,5 @@
 -- All keys, or none.
-use Rattle.std.proofs.Common.{rules, arith}
+use Rattle.std.proofs.Common.{arith}
 use Rattle.star_swap.specs.Ended.{ended_first}
 use Rattle.star_swap.proofs.first_key.Goals as goal
 

@@ -1,9 +1,7 @@
 -- From the last slot up, each misplaced slot goes in front of its list.
 use Rattle.std.proofs.Math.Path.{◌≡◌}
-use Prim.Native.Nat.{◌≤◌, ◌<◌, ◌-◌}
-use Rattle.std.proofs.Common.{arith, rules}
-use Rattle.std.specs.Prelude.{length}
-use Rattle.star_swap.specs.StarCode.{LinkedAt, linked_begin, goal_key, linked_right, linked_wrong}
+use Rattle.std.proofs.Common.{arith}
+use Rattle.star_swap.specs.StarCode.{linked_begin, goal_key, linked_right, linked_wrong}
 use Rattle.star_swap.proofs.link.Goals as goal
 
 pub loop-pos-init : goal.loop-pos-init

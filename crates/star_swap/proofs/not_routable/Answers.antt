@@ -1,6 +1,5 @@
 -- Unequal lengths, or the two tests.
 use Rattle.star_swap.specs.Check.{unequal_route, tested_route}
-use Rattle.std.proofs.Common.{rules}
 use Rattle.star_swap.proofs.not_routable.Goals as goal
 
 pub returns-then-start-goal : goal.returns-then-start-goal

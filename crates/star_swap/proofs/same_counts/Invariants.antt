@@ -1,7 +1,6 @@
 -- The keys looked at so far, and whether the counts of some differ: the loop's invariant.
 use Prim.Native.Nat.{◌-◌}
-use Rattle.star_swap.specs.Check.{Equalling, equal_first, equal_next, equal_last}
-use Rattle.std.proofs.Common.{rules}
+use Rattle.star_swap.specs.Check.{Equalling}
 use Rattle.star_swap.proofs.same_counts.Given as goal
 
 abbrev pub invariant-loop-k : goal.invariant-loop-k

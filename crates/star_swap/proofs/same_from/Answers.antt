@@ -1,8 +1,6 @@
 -- The keys that are left decide.
-use Prim.Native.Nat.{◌-◌}
-use Rattle.std.specs.Prelude.{refl, length}
-use Rattle.star_swap.specs.Check.{Placing, place_differ, place_next, place_last}
-use Rattle.std.proofs.Common.{rules}
+use Rattle.std.specs.Prelude.{refl}
+use Rattle.star_swap.specs.Check.{place_differ, place_next, place_last}
 use Rattle.star_swap.proofs.same_from.Goals as goal
 
 pub loop-i-init : goal.loop-i-init

@@ -1,8 +1,7 @@
 -- The keys that are left decide.
 use Prim.Native.Nat.{◌-◌}
-use Rattle.std.specs.Prelude.{refl, length}
-use Rattle.star_swap.specs.Check.{Placing, place_differ, place_next, place_last}
-use Rattle.std.proofs.Common.{rules}
+use Rattle.std.specs.Prelude.{length}
+use Rattle.star_swap.specs.Check.{Placing}
 use Rattle.star_swap.proofs.same_from.Given as goal
 
 abbrev pub invariant-loop-i : goal.invariant-loop-i

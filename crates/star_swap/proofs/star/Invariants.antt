@@ -1,12 +1,8 @@
 -- The first trail, then a circuit for each key: what is written and the circuits to come are the whole.
-use Rattle.std.proofs.Math.Path.{◌≡◌, ◌∙◌}
-use Rattle.std.specs.Prelude.{refl, length, take, drop}
-use Rattle.std.proofs.Common.{ap, arith, length-set, length-take-le, rules}
-use Prim.Native.Nat.{◌≤◌, ◌<◌, ◌-◌}
-use Rattle.std.proofs.Math.Logic.{⊎_elim}
-use Rattle.star_swap.specs.StarCode.{drop_more, emitted_prefix}
-use Rattle.star_swap.specs.StarLoop.{StarInv, first_ready, star_begin, key_ready, none_out, room, one_out, empty_end, one_rest, appended_end}
-use Rattle.star_swap.specs.Ended.{skipped}
+use Rattle.std.proofs.Math.Path.{◌≡◌}
+use Rattle.std.specs.Prelude.{length, take, drop}
+use Prim.Native.Nat.{◌≤◌, ◌-◌}
+use Rattle.star_swap.specs.StarLoop.{StarInv}
 use Rattle.star_swap.proofs.star.Given as goal
 
 abbrev pub invariant-loop-key : goal.invariant-loop-key

@@ -1,6 +1,6 @@
 -- A refusal by the table; else the swaps, over the first places.
 use Rattle.star_swap.specs.Call.{swap_refused, swap_given, swap_pair, swap_places}
-use Rattle.std.proofs.Common.{arith, rules}
+use Rattle.std.proofs.Common.{arith}
 use Rattle.star_swap.proofs.star_swap.Goals as goal
 
 pub returns-then-n-ne0 : goal.returns-then-n-ne0

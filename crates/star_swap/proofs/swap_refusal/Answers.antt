@@ -1,5 +1,5 @@
 -- The shared rows, and the row of 9 where none of them applies.
-use Rattle.std.proofs.Common.{arith, rules}
+use Rattle.std.proofs.Common.{arith}
 use Rattle.star_swap.specs.Check.{shared_none, shared_row, last_row}
 use Rattle.star_swap.proofs.swap_refusal.Goals as goal
 

@@ -1,12 +1,11 @@
 -- The loop of the definition, over the arrays.
 use Rattle.std.specs.Prelude.{refl, length}
-use Prim.Native.Nat.{◌<◌, ◌+◌, ◌*◌, ◌-◌}
-use Rattle.std.proofs.Common.{arith, rules}
+use Prim.Native.Nat.{◌<◌, ◌-◌}
+use Rattle.std.proofs.Common.{arith}
 use Rattle.std.proofs.Math.ListN.{get_or}
-use Rattle.star_swap.specs.TrailCode.{TrailInv, begin, leave, pop, push, arc_low, arc_room, key_of_lem, key_start}
+use Rattle.star_swap.specs.TrailCode.{begin, leave, pop, push, arc_low, arc_room, key_of_lem, key_start}
 use Rattle.star_swap.proofs.trail.Lts
 use Rattle.star_swap.proofs.trail.Reads
-use Rattle.star_swap.proofs.trail.Tie
 use Rattle.star_swap.proofs.trail.Goals as goal
 
 arc_low_at : (c : Lts.Else1 Reads.Pre Reads.Post goal.the-invariant-loop-stack goal.the-decreases-loop-stack) → get_or c.loop-stack.head c.loop-stack.key 0 < length c.args.cur.now

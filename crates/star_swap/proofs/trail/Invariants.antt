@@ -1,9 +1,6 @@
 -- The loop of the definition, over the arrays.
-use Rattle.std.specs.Prelude.{refl, length}
-use Prim.Native.Nat.{◌<◌, ◌+◌, ◌*◌, ◌-◌}
-use Rattle.std.proofs.Common.{arith, rules}
-use Rattle.std.proofs.Math.ListN.{get_or}
-use Rattle.star_swap.specs.TrailCode.{TrailInv, begin, leave, pop, push, arc_low, arc_room, key_of_lem, key_start}
+use Prim.Native.Nat.{◌+◌, ◌*◌, ◌-◌}
+use Rattle.star_swap.specs.TrailCode.{TrailInv}
 use Rattle.star_swap.proofs.trail.Given as goal
 
 abbrev pub invariant-loop-stack : goal.invariant-loop-stack

@@ -1,7 +1,5 @@
-use Rattle.std.proofs.Common.{arith, rules}
+use Rattle.std.proofs.Common.{arith}
 use Rattle.successors.specs.Tests.{serves_by, serves_not}
-use Rattle.costs.proofs.Cost.no_more.Reads as no-more-reads
-use Rattle.costs.proofs.price_of.Reads as price-of-reads
 use Rattle.successors.proofs.dup_serves.Goals as goal
 
 pub overflow_cast-p : goal.overflow_cast-p

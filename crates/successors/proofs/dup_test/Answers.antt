@@ -1,8 +1,6 @@
-use Rattle.std.proofs.Common.{arith, sym, rules}
+use Rattle.std.proofs.Common.{arith, sym}
 use Rattle.std.proofs.Math.Path.{◌∙◌}
 use Rattle.successors.specs.Places.{first_here, dup_first, dup_again}
-use Rattle.successors.proofs.goal_zero.Reads as goal-zero-reads
-use Rattle.successors.proofs.place_at.Reads as place-at-reads
 use Rattle.successors.proofs.dup_test.Goals as goal
 
 pub bounds-w-p : goal.bounds-w-p

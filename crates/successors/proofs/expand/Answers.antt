@@ -1,5 +1,5 @@
 use Rattle.std.proofs.Math.Path.{◌≡◌, ◌∙◌}
-use Rattle.std.proofs.Common.{sym, ap, rules}
+use Rattle.std.proofs.Common.{sym, ap}
 use Rattle.std.specs.Prelude.{length, take}
 use Rattle.window.specs.Keys.{keys_of, keys_length}
 use Rattle.window.specs.Written.{written_front, written_length}

@@ -1,11 +1,5 @@
-use Rattle.std.proofs.Common.{arith, rules}
+use Rattle.std.proofs.Common.{arith}
 use Rattle.successors.specs.Whole.{asked, pushing, room_pop, room_zero, room_swap, room_rest, made}
-use Rattle.successors.proofs.grown_rest.Reads as grown-rest-reads
-use Rattle.successors.proofs.grown_zeros.Reads as grown-zeros-reads
-use Rattle.successors.proofs.least.Reads as least-reads
-use Rattle.successors.proofs.offered.Reads as offered-reads
-use Rattle.successors.proofs.suffix_start.Reads as suffix-start-reads
-use Rattle.successors.proofs.with_swaps.Reads as with-swaps-reads
 use Rattle.successors.proofs.expand_keys.Goals as goal
 
 pub offered-popped-requires : goal.offered-popped-requires

@@ -1,10 +1,7 @@
-use Rattle.std.proofs.Math.Path.{◌≡◌, ◌∙◌}
-use Rattle.std.specs.Prelude.{refl}
-use Rattle.std.proofs.Common.{sym, ap, rules}
+use Rattle.std.proofs.Math.Path.{◌∙◌}
+use Rattle.std.proofs.Common.{sym}
 use Rattle.successors.specs.Successors.{goal_zero}
 use Rattle.successors.specs.Tests.{both_by, both_not}
-use Rattle.successors.proofs.kind_is.Reads as kind-is-reads
-use Rattle.successors.proofs.list_has.Reads as list-has-reads
 use Rattle.successors.proofs.goal_zero.Goals as goal
 
 pub returns-then-kind_is : goal.returns-then-kind_is

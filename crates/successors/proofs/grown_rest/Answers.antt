@@ -1,14 +1,9 @@
-use Rattle.std.proofs.Common.{sym, rules}
+use Rattle.std.proofs.Common.{sym}
 use Rattle.std.proofs.Math.Path.{◌∙◌}
 use mathlib.Core.List.{◌++◌}
 use Rattle.successors.specs.Successors.{dups, others, loads}
 use Rattle.successors.specs.Places.{placed_none}
 use Rattle.successors.specs.Listed.{room_grown, room_first, room_second, room_third, added_grown, added_full, added_three}
-use Rattle.successors.proofs.may_grow.Reads as may-grow-reads
-use Rattle.successors.proofs.place_keys.Reads as place-keys-reads
-use Rattle.successors.proofs.with_dups.Reads as with-dups-reads
-use Rattle.successors.proofs.with_loads.Reads as with-loads-reads
-use Rattle.successors.proofs.with_others.Reads as with-others-reads
 use Rattle.successors.proofs.grown_rest.Goals as goal
 
 pub place_keys-requires : goal.place_keys-requires

@@ -1,8 +1,6 @@
-use Rattle.std.proofs.Common.{sym, rules}
+use Rattle.std.proofs.Common.{sym}
 use Rattle.std.proofs.Math.Path.{◌∙◌}
 use Rattle.successors.specs.Listed.{room_grown, added_grown, added_full}
-use Rattle.successors.proofs.may_grow.Reads as may-grow-reads
-use Rattle.successors.proofs.with_zeros.Reads as with-zeros-reads
 use Rattle.successors.proofs.grown_zeros.Goals as goal
 
 pub with_zeros-requires : goal.with_zeros-requires

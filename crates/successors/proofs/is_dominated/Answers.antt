@@ -1,10 +1,6 @@
 use Rattle.successors.specs.Tests.{some_here, some_on, some_none}
-use Rattle.successors.specs.Successors.{dup_serves, dominated}
-use Rattle.successors.specs.Parts.{some_below}
-use Rattle.std.proofs.Common.{arith, rules}
-use Prim.Native.Nat.{◌≤◌, ◌-◌}
-use Rattle.std.proofs.Math.Path.{◌≡◌}
-use Rattle.successors.proofs.dup_serves.Reads as dup-serves-reads
+use Rattle.successors.specs.Successors.{dominated}
+use Rattle.std.proofs.Common.{arith}
 use Rattle.successors.proofs.is_dominated.Goals as goal
 
 pub dup_serves-requires : goal.dup_serves-requires

@@ -1,10 +1,7 @@
-use Rattle.successors.specs.Tests.{some_here, some_on, some_none}
-use Rattle.successors.specs.Successors.{dup_serves, dominated}
+use Rattle.successors.specs.Successors.{dup_serves}
 use Rattle.successors.specs.Parts.{some_below}
-use Rattle.std.proofs.Common.{arith, rules}
-use Prim.Native.Nat.{◌≤◌, ◌-◌}
+use Prim.Native.Nat.{◌≤◌}
 use Rattle.std.proofs.Math.Path.{◌≡◌}
-use Rattle.successors.proofs.dup_serves.Reads as dup-serves-reads
 use Rattle.successors.proofs.is_dominated.Given as goal
 
 abbrev pub invariant-loop-p : goal.invariant-loop-p

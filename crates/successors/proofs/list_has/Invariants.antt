@@ -1,10 +1,7 @@
 use Rattle.successors.specs.Parts.{has}
-use Rattle.std.proofs.Common.{arith, sym, rules}
-use borrow.Author.Tests.{eq-eqb, ne_eqb}
-use Rattle.std.specs.Prelude.{length, drop, refl}
+use Rattle.std.specs.Prelude.{length, drop}
 use Prim.Native.Nat.{◌≤◌, ◌-◌}
-use Rattle.std.proofs.Math.Path.{◌≡◌, ◌∙◌}
-use Rattle.successors.specs.Tests.{list_found, has_turn, has_end}
+use Rattle.std.proofs.Math.Path.{◌≡◌}
 use Rattle.successors.proofs.list_has.Given as goal
 
 abbrev pub invariant-loop-i : goal.invariant-loop-i

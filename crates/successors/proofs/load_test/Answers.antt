@@ -1,12 +1,10 @@
 use Rattle.std.proofs.Math.ListN.{get_or}
-use Prim.Native.Nat.{ℕ, ◌-◌}
-use Rattle.std.proofs.Common.{arith, sym, ap, rules}
+use Prim.Native.Nat.{ℕ}
+use Rattle.std.proofs.Common.{arith, sym, ap}
 use Rattle.std.proofs.Math.Path.{◌∙◌}
 use Rattle.std.specs.Prelude.{eqb}
 use Rattle.successors.specs.Places.{load_is}
 use Rattle.successors.specs.Tests.{both_by, both_not}
-use Rattle.successors.proofs.kind_is.Reads as kind-is-reads
-use Rattle.successors.proofs.place_at.Reads as place-at-reads
 use Rattle.successors.proofs.load_test.Goals as goal
 
 pub place_at-requires : goal.place_at-requires

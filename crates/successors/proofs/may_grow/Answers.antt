@@ -1,4 +1,3 @@
-use Rattle.std.proofs.Common.{rules}
 use Rattle.std.specs.Prelude.{refl}
 use Rattle.replay.specs.Machine.{room}
 use Rattle.successors.proofs.may_grow.Goals as goal

@@ -1,8 +1,6 @@
-use Prim.Native.Nat.{◌-◌}
 use Rattle.std.specs.Prelude.{refl}
 use Rattle.successors.specs.Listed.{offer_room, offer_count, added_one, added_skip}
 use Rattle.std.proofs.Common.{rules}
-use Rattle.costs.proofs.code.Reads as code_Reads
 use Rattle.successors.proofs.offered.Goals as goal
 
 pub bounds-out-n : goal.bounds-out-n

@@ -1,13 +1,9 @@
 use Rattle.std.specs.Prelude.{not, true}
 use Rattle.successors.specs.Successors.{other_offered}
-use Prim.Native.Nat.{◌-◌}
-use Rattle.std.proofs.Common.{arith, sym, ap, rules}
+use Rattle.std.proofs.Common.{arith, sym, ap}
 use Rattle.std.proofs.Math.Path.{◌∙◌}
 use Rattle.successors.specs.Places.{alone}
 use Rattle.successors.specs.Tests.{both_by, both_not}
-use Rattle.successors.proofs.is_dominated.Reads as is-dominated-reads
-use Rattle.successors.proofs.kind_is.Reads as kind-is-reads
-use Rattle.successors.proofs.place_at.Reads as place-at-reads
 use Rattle.successors.proofs.other_test.Goals as goal
 
 pub place_at-requires : goal.place_at-requires

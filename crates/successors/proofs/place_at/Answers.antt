@@ -1,5 +1,4 @@
-use Prim.Native.Nat.{◌-◌}
-use Rattle.std.proofs.Common.{arith, rules}
+use Rattle.std.proofs.Common.{arith}
 use Rattle.successors.proofs.place_at.Goals as goal
 
 pub overflow_cast-result : goal.overflow_cast-result

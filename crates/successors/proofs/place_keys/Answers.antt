@@ -1,8 +1,8 @@
-use Rattle.std.proofs.Common.{arith, sym, length-take-le, rules}
-use Prim.Native.Nat.{◌≤◌, ◌-◌}
+use Rattle.std.proofs.Common.{arith, sym, length-take-le}
+use Prim.Native.Nat.{◌-◌}
 use Rattle.std.proofs.Math.Path.{◌∙◌}
-use Rattle.std.specs.Prelude.{take, drop}
-use Rattle.successors.specs.Places.{Placed, placed_begin, placed_on, placed_end}
+use Rattle.std.specs.Prelude.{take}
+use Rattle.successors.specs.Places.{placed_begin, placed_on, placed_end}
 use Rattle.successors.proofs.place_keys.Goals as goal
 
 pub loop-i-init : goal.loop-i-init

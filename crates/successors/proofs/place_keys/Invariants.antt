@@ -1,8 +1,6 @@
-use Rattle.std.proofs.Common.{arith, sym, length-take-le, rules}
-use Prim.Native.Nat.{◌≤◌, ◌-◌}
-use Rattle.std.proofs.Math.Path.{◌∙◌}
+use Prim.Native.Nat.{◌≤◌}
 use Rattle.std.specs.Prelude.{take, drop}
-use Rattle.successors.specs.Places.{Placed, placed_begin, placed_on, placed_end}
+use Rattle.successors.specs.Places.{Placed}
 use Rattle.successors.proofs.place_keys.Given as goal
 
 abbrev pub invariant-loop-i : goal.invariant-loop-i

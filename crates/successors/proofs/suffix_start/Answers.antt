@@ -1,10 +1,7 @@
-use Rattle.std.proofs.Common.{arith, rules}
-use Prim.Native.Nat.{◌+◌, ◌-◌, ◌≤◌, ◌<◌, min}
-use Rattle.std.specs.Prelude.{reverse, length, drop}
-use Rattle.std.proofs.Math.Path.{◌≡◌}
-use Rattle.successors.specs.Successors.{common}
+use Rattle.std.proofs.Common.{arith}
+use Prim.Native.Nat.{◌≤◌, ◌<◌, min}
+use Rattle.std.specs.Prelude.{length}
 use Rattle.successors.specs.Suffix.{common_differs, common_same, common_stops}
-use Rattle.successors.proofs.least.Reads as least-reads
 use Rattle.successors.proofs.suffix_start.Goals as goal
 
 pub returns-then-w-n : goal.returns-then-w-n

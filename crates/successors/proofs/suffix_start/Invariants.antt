@@ -1,10 +1,7 @@
-use Rattle.std.proofs.Common.{arith, rules}
-use Prim.Native.Nat.{◌+◌, ◌-◌, ◌≤◌, ◌<◌, min}
-use Rattle.std.specs.Prelude.{reverse, length, drop}
+use Prim.Native.Nat.{◌+◌, ◌-◌, ◌≤◌}
+use Rattle.std.specs.Prelude.{reverse, drop}
 use Rattle.std.proofs.Math.Path.{◌≡◌}
 use Rattle.successors.specs.Successors.{common}
-use Rattle.successors.specs.Suffix.{common_differs, common_same, common_stops}
-use Rattle.successors.proofs.least.Reads as least-reads
 use Rattle.successors.proofs.suffix_start.Given as goal
 
 abbrev pub invariant-loop-k : goal.invariant-loop-k

@@ -1,4 +1,4 @@
-use Rattle.std.proofs.Common.{arith, rules}
+use Rattle.std.proofs.Common.{arith}
 use Rattle.successors.specs.Tests.{swap_top, swap_last, swap_same, swap_below, swap_free}
 use Rattle.successors.proofs.swap_test.Goals as goal
 

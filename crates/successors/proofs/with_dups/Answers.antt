@@ -1,11 +1,7 @@
-use Prim.Native.Nat.{◌≤◌, ◌-◌}
-use Rattle.std.proofs.Common.{arith, rules}
+use Rattle.std.proofs.Common.{arith}
 use Rattle.std.specs.Prelude.{refl}
-use Rattle.successors.specs.Parts.{up_to}
 use Rattle.successors.specs.Successors.{dup_at}
-use Rattle.successors.specs.Listed.{steps, Added, added_start, added_end, loop_added, loop_room}
-use Rattle.successors.proofs.dup_test.Reads as dup-test-reads
-use Rattle.successors.proofs.offered.Reads as offered-reads
+use Rattle.successors.specs.Listed.{added_start, added_end, loop_added, loop_room}
 use Rattle.successors.proofs.with_dups.Goals as goal
 
 pub loop-p-init : goal.loop-p-init

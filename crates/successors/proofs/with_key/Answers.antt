@@ -1,9 +1,5 @@
 use Rattle.successors.specs.Kept.{kept}
 use Rattle.successors.specs.Kept.{yes, yes_count, no, no_count}
-use Rattle.std.specs.Prelude.{length, refl}
-use Rattle.std.proofs.Common.{arith, sym, ap, rules}
-use Rattle.std.proofs.Math.Path.{◌≡◌, ◌∙◌}
-use Rattle.successors.proofs.Distinct.add.Reads as add_reads
 use Rattle.successors.proofs.with_key.Goals as goal
 
 pub returns-then-test : goal.returns-then-test

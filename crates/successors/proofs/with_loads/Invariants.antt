@@ -1,12 +1,9 @@
-use Rattle.std.specs.Prelude.{length, refl}
+use Rattle.std.specs.Prelude.{length}
 use Rattle.std.proofs.Math.ListN.{get_or}
 use Prim.Native.Nat.{ℕ, ◌≤◌, ◌-◌}
-use Rattle.std.proofs.Common.{arith, rules}
 use Rattle.successors.specs.Parts.{up_to}
 use Rattle.successors.specs.Successors.{load_at}
-use Rattle.successors.specs.Listed.{steps, Added, added_start, added_each, loop_added, loop_room, each_roomy}
-use Rattle.successors.proofs.load_test.Reads as load-test-reads
-use Rattle.successors.proofs.offered.Reads as offered-reads
+use Rattle.successors.specs.Listed.{steps, Added}
 use Rattle.successors.proofs.with_loads.Given as goal
 
 abbrev pub invariant-loop-i : goal.invariant-loop-i

@@ -1,11 +1,6 @@
 use Rattle.heuristic.specs.Counts.{count_none}
-use Rattle.std.proofs.Common.{arith, rules}
+use Rattle.std.proofs.Common.{arith}
 use Rattle.table.proofs.Laws.{goal_fit, all_prepared}
-use Rattle.heuristic.proofs.count_list.Reads as count-list-reads
-use Rattle.heuristic.proofs.least_dup.Reads as least-dup-reads
-use Rattle.successors.proofs.distinct_keys.Reads as distinct-keys-reads
-use Rattle.table.proofs.put.Reads as put_reads
-use Rattle.table.proofs.put_keys.Reads as put-keys-reads
 use Rattle.table.proofs.prepare.Goals as goal
 
 pub count_list-requires : goal.count_list-requires

@@ -1,6 +1,4 @@
-use Prim.Native.Nat.{◌-◌}
-use Rattle.table.proofs.Laws.{Putting, put_first, put_next, put_place, put_end}
-use Rattle.std.proofs.Common.{rules}
+use Rattle.table.proofs.Laws.{put_first, put_next, put_place, put_end}
 use Rattle.table.proofs.put.Goals as goal
 
 pub loop-i-init : goal.loop-i-init

@@ -1,6 +1,5 @@
 use Prim.Native.Nat.{◌-◌}
-use Rattle.table.proofs.Laws.{Putting, put_first, put_next, put_place, put_end}
-use Rattle.std.proofs.Common.{rules}
+use Rattle.table.proofs.Laws.{Putting}
 use Rattle.table.proofs.put.Given as goal
 
 abbrev pub invariant-loop-i : goal.invariant-loop-i

@@ -2,8 +2,6 @@ use Rattle.std.proofs.Math.Path.{◌≡◌}
 use Rattle.std.specs.Prelude.{length}
 use Rattle.std.proofs.Common.{arith, rules}
 use Rattle.table.proofs.Laws.{keys_put}
-use Rattle.table.proofs.at_most_21.Reads as at-most-21-reads
-use Rattle.table.proofs.put.Reads as put_reads
 use Rattle.table.proofs.put_keys.Goals as goal
 
 pub put-requires : goal.put-requires

@@ -1,7 +1,6 @@
 -- A refusal by the table; else the keys are packed, and the two halves are those of the number.
 use Rattle.std.proofs.Math.Path.{◌≡◌, ◌∙◌}
-use Rattle.std.specs.Prelude.{refl}
-use Rattle.std.proofs.Common.{sym, arith, rules}
+use Rattle.std.proofs.Common.{arith}
 use Prim.Native.Nat.{◌^◌, ◌<◌}
 use Rattle.std.proofs.Math.Pow.{high, low}
 use borrow.Author.Tests.{ne_eqb}

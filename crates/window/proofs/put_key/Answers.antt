@@ -1,12 +1,11 @@
 -- `window::put_key` meets its contract.
-use Rattle.std.proofs.Math.Path.{◌≡◌, ◌∙◌}
-use Rattle.std.proofs.Common.{sym, ap, subst, arith, lit<, rules}
-use Prim.Native.Nat.{ℕ, ◌+◌, ◌-◌, ◌*◌, ◌/◌, ◌%◌, ◌^◌, ◌≤◌, ◌<◌}
+use Rattle.std.proofs.Math.Path.{◌≡◌}
+use Rattle.std.proofs.Common.{arith, lit<}
+use Prim.Native.Nat.{◌+◌, ◌-◌, ◌*◌, ◌%◌, ◌^◌, ◌≤◌, ◌<◌}
 use Rattle.std.proofs.Math.Pow.{pow_pos}
 use Rattle.window.proofs.Put.{old_mod, new_mod, old_le, new_fits, word}
 use Rattle.window.proofs.put_key.Lts
 use Rattle.window.proofs.put_key.Reads
-use Rattle.window.proofs.put_key.Tie
 use Rattle.window.proofs.put_key.Goals as goal
 
 -- src/lib.rt:19:5

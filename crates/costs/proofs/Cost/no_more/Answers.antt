@@ -1,4 +1,3 @@
-use Rattle.std.proofs.Common.{rules}
 use borrow.Author.Tests.{eq-eqb, ne_eqb}
 use Rattle.costs.specs.Cost.{no_more}
 use Rattle.costs.proofs.Cost.no_more.Goals as goal

@@ -1,4 +1,4 @@
-use Rattle.std.proofs.Common.{rules, arith}
+use Rattle.std.proofs.Common.{arith}
 use Rattle.costs.specs.Packed.{packed_back}
 use Rattle.costs.proofs.Cost.packed.Goals as goal
 

@@ -1,4 +1,3 @@
-use Rattle.std.proofs.Common.{rules}
 use Rattle.costs.specs.Cost.{plus}
 use Rattle.costs.proofs.Cost.saturating_add.Goals as goal
 

@@ -1,4 +1,3 @@
-use Rattle.std.proofs.Common.{rules}
 use Rattle.std.specs.Prelude.{refl}
 use Rattle.costs.specs.Packed.{cost_of}
 use Rattle.costs.proofs.Cost.unpacked.Goals as goal

@@ -1,4 +1,4 @@
-use Rattle.std.proofs.Common.{rules, lt-ltb, le-ltb}
+use Rattle.std.proofs.Common.{lt-ltb, le-ltb}
 use Rattle.desk_text.specs.Put.{parted}
 use Rattle.desk_text.proofs.print.parting.Goals as goal
 

@@ -1,4 +1,3 @@
-use Rattle.std.proofs.Common.{rules}
 use Rattle.desk_text.specs.Put.{print_plan, print_refused, print_unreadable}
 use Rattle.desk_text.proofs.print.print.Goals as goal
 

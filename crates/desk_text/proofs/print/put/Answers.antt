@@ -1,8 +1,6 @@
 -- The first bytes of the text stand at their places: the loop's invariant.
 use Rattle.std.proofs.Common.{rules}
-use Prim.Native.Nat.{◌-◌}
-use Rattle.std.specs.Prelude.{length}
-use Rattle.desk_text.specs.Put.{PutSoFar, put_start, put_more, put_end}
+use Rattle.desk_text.specs.Put.{put_start, put_more, put_end}
 use Rattle.desk_text.proofs.print.put.Goals as goal
 
 pub loop-i-init : goal.loop-i-init

@@ -1,8 +1,7 @@
 -- The first bytes of the text stand at their places: the loop's invariant.
-use Rattle.std.proofs.Common.{rules}
 use Prim.Native.Nat.{◌-◌}
 use Rattle.std.specs.Prelude.{length}
-use Rattle.desk_text.specs.Put.{PutSoFar, put_start, put_more, put_end}
+use Rattle.desk_text.specs.Put.{PutSoFar}
 use Rattle.desk_text.proofs.print.put.Given as goal
 
 abbrev pub invariant-loop-i : goal.invariant-loop-i

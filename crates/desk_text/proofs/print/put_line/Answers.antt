@@ -1,8 +1,6 @@
 -- The numbers so far stand in the buffer, and what is left decides: the loop's invariant.
 use Rattle.std.proofs.Common.{rules}
-use Prim.Native.Nat.{◌-◌}
-use Rattle.std.specs.Prelude.{length}
-use Rattle.desk_text.specs.Put.{LineSoFar, line_start, line_more, line_end}
+use Rattle.desk_text.specs.Put.{line_start, line_more, line_end}
 use Rattle.desk_text.proofs.print.put_line.Goals as goal
 
 pub loop-i-init : goal.loop-i-init

@@ -1,4 +1,3 @@
-use Rattle.std.proofs.Common.{rules}
 use Rattle.desk_text.specs.Put.{put_pop, put_dup, put_swap, put_push, put_load}
 use Rattle.desk_text.proofs.print.put_step.Goals as goal
 

@@ -1,8 +1,6 @@
 -- The steps so far stand in the buffer, and what is left decides: the loop's invariant.
 use Rattle.std.proofs.Common.{rules}
-use Prim.Native.Nat.{◌-◌}
-use Rattle.std.specs.Prelude.{length}
-use Rattle.desk_text.specs.Put.{StepsSoFar, steps_start, steps_more, steps_end}
+use Rattle.desk_text.specs.Put.{steps_start, steps_more, steps_end}
 use Rattle.desk_text.proofs.print.put_steps.Goals as goal
 
 pub loop-i-init : goal.loop-i-init

@@ -1,4 +1,3 @@
-use Rattle.std.proofs.Common.{rules}
 use Rattle.desk_text.specs.Put.{put_word}
 use Rattle.desk_text.proofs.print.put_word.Goals as goal
 

@@ -1,6 +1,5 @@
 -- The last digits stand at the array's end: the loop's invariant.
-use Rattle.std.proofs.Common.{rules}
-use Rattle.desk_text.specs.Put.{DigitsSoFar, digits_start, digits_room, digits_more, digits_end}
+use Rattle.desk_text.specs.Put.{DigitsSoFar}
 use Rattle.desk_text.proofs.print.spell.Given as goal
 
 abbrev pub invariant-loop-rest : goal.invariant-loop-rest

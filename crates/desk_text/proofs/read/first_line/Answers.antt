@@ -1,4 +1,3 @@
-use Rattle.std.proofs.Common.{rules}
 use Rattle.desk_text.specs.Feeding.{limits_six}
 use Rattle.desk_text.proofs.read.first_line.Goals as goal
 

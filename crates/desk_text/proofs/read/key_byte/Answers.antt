@@ -1,4 +1,4 @@
-use Rattle.std.proofs.Common.{rules, lt-ltb, le-ltb}
+use Rattle.std.proofs.Common.{lt-ltb, le-ltb}
 use Rattle.desk_text.proofs.read.key_byte.Goals as goal
 
 pub returns-then-n-lt256 : goal.returns-then-n-lt256

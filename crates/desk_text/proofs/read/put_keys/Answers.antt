@@ -1,7 +1,5 @@
 use Rattle.std.proofs.Common.{rules}
-use Prim.Native.Nat.{◌-◌}
-use Rattle.std.specs.Prelude.{length}
-use Rattle.desk_text.specs.Feeding.{KeysSoFar, keys_start, keys_more, keys_end}
+use Rattle.desk_text.specs.Feeding.{keys_start, keys_more, keys_end}
 use Rattle.desk_text.proofs.read.put_keys.Goals as goal
 
 pub loop-i-init : goal.loop-i-init

@@ -1,7 +1,6 @@
-use Rattle.std.proofs.Common.{rules}
 use Prim.Native.Nat.{◌-◌}
 use Rattle.std.specs.Prelude.{length}
-use Rattle.desk_text.specs.Feeding.{KeysSoFar, keys_start, keys_more, keys_end}
+use Rattle.desk_text.specs.Feeding.{KeysSoFar}
 use Rattle.desk_text.proofs.read.put_keys.Given as goal
 
 abbrev pub invariant-loop-i : goal.invariant-loop-i

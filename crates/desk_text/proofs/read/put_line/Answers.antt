@@ -1,4 +1,3 @@
-use Rattle.std.proofs.Common.{rules}
 use Rattle.std.specs.Prelude.{refl}
 use Rattle.desk_text.specs.Feeding.{keys_from}
 use Rattle.desk_text.proofs.read.put_line.Goals as goal

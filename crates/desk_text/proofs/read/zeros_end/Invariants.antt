@@ -1,8 +1,6 @@
-use Rattle.std.proofs.Common.{rules}
 use Prim.Native.Nat.{◌-◌}
 use Rattle.std.specs.Prelude.{length}
 use Rattle.desk_text.specs.Reader.{Zeros}
-use Rattle.desk_text.specs.Feeding.{zeros_none, zeros_more}
 use Rattle.desk_text.proofs.read.zeros_end.Given as goal
 
 abbrev pub invariant-loop-i : goal.invariant-loop-i

@@ -1,6 +1,5 @@
 use Rattle.std.proofs.Common.{rules}
-use Prim.Native.Nat.{◌-◌}
-use Rattle.desk_text.specs.Tables.{Filled, fill_start, fill_more, fill_end, desk_kind, desk_kinds}
+use Rattle.desk_text.specs.Tables.{fill_start, fill_more, fill_end, desk_kinds}
 use Rattle.desk_text.proofs.tables.kinds.Goals as goal
 
 pub loop-i-init : goal.loop-i-init

@@ -1,4 +1,3 @@
-use Rattle.std.proofs.Common.{rules}
 use borrow.Author.Tests.{lt-ltb, le-ltb, eq-eqb, ne_eqb}
 use Rattle.desk_text.specs.Tables.{desk_pair}
 use Rattle.desk_text.proofs.tables.pair_at.Goals as goal

@@ -1,4 +1,3 @@
-use Rattle.std.proofs.Common.{rules}
 use borrow.Author.Tests.{eq-eqb, ne_eqb}
 use Rattle.desk_text.specs.Tables.{desk_price}
 use Rattle.desk_text.proofs.tables.price_at.Goals as goal

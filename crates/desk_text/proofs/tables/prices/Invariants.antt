@@ -1,6 +1,5 @@
-use Rattle.std.proofs.Common.{rules}
 use Prim.Native.Nat.{◌-◌}
-use Rattle.desk_text.specs.Tables.{Filled, fill_start, fill_more, fill_end, desk_price, desk_prices}
+use Rattle.desk_text.specs.Tables.{Filled, desk_price}
 use Rattle.desk_text.proofs.tables.prices.Given as goal
 
 abbrev pub invariant-loop-i : goal.invariant-loop-i

@@ -1,5 +1,4 @@
 -- Found, with the length as the highest window, and zeros.
-use Rattle.std.proofs.Common.{rules}
 use Rattle.planner.proofs.Answer.no_steps.Goals as goal
 
 pub returns : goal.returns

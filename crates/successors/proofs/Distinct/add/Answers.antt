@@ -1,7 +1,7 @@
 use Rattle.successors.specs.Kept.{kept, kept_add}
-use Rattle.std.specs.Prelude.{length, refl}
-use Rattle.std.proofs.Common.{arith, sym, ap, rules}
-use Rattle.std.proofs.Math.Path.{◌≡◌, ◌∙◌}
+use Rattle.std.specs.Prelude.{length}
+use Rattle.std.proofs.Common.{arith, rules}
+use Rattle.std.proofs.Math.Path.{◌≡◌}
 use Rattle.successors.proofs.Distinct.add.Goals as goal
 
 pub returns : goal.returns

@@ -1,7 +1,5 @@
 use Rattle.successors.specs.Kept.{kept}
-use Rattle.std.specs.Prelude.{length, refl}
-use Rattle.std.proofs.Common.{arith, sym, ap, rules}
-use Rattle.std.proofs.Math.Path.{◌≡◌, ◌∙◌}
+use Rattle.std.specs.Prelude.{refl}
 use Rattle.successors.proofs.Distinct.none.Goals as goal
 
 pub returns : goal.returns

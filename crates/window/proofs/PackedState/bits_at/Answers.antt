@@ -1,7 +1,6 @@
 -- `window::PackedState::bits_at` meets its contract.
-use Rattle.std.proofs.Math.Path.{◌≡◌, ◌∙◌}
-use Rattle.std.proofs.Common.{sym, ap, arith, rules}
-use Prim.Native.Nat.{ℕ, ◌+◌, ◌-◌, ◌*◌, ◌/◌, ◌%◌, ◌^◌, ◌<◌}
+use Rattle.std.proofs.Common.{sym, arith}
+use Prim.Native.Nat.{◌-◌, ◌*◌, ◌^◌, ◌<◌}
 use Rattle.std.proofs.Math.Nat.{mul_assoc, mod-eq_of_lt, lt_of_le_of_lt, div-le_self}
 use Rattle.std.proofs.Math.Pow.{pow_pos}
 use Rattle.window.specs.State.{whole}

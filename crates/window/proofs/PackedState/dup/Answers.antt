@@ -1,8 +1,7 @@
 -- `window::PackedState::dup` meets its contract.
-use Rattle.std.proofs.Math.Path.{◌≡◌}
-use Rattle.std.proofs.Common.{sym, subst, rules}
+use Rattle.std.proofs.Common.{subst}
 use mathlib.Core.List.{◌∷◌}
-use Prim.Native.Nat.{ℕ, ◌<◌}
+use Prim.Native.Nat.{ℕ}
 use Rattle.window.specs.Laws.{key_lt}
 use Rattle.window.specs.State.{Held}
 use Rattle.window.proofs.PackedState.dup.Goals as goal

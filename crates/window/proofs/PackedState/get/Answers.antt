@@ -1,11 +1,10 @@
 -- `window::PackedState::get` meets its contract: the six bits from bit 6 * idx on.
-use Rattle.std.proofs.Math.Path.{◌≡◌, ◌∙◌}
-use Rattle.std.specs.Prelude.{refl, List, length}
-use Rattle.std.proofs.Common.{sym, ap, arith, rules}
-use Prim.Native.Nat.{ℕ, ◌+◌, ◌-◌, ◌*◌, ◌/◌, ◌%◌, ◌^◌, ◌≤◌, ◌<◌}
+use Rattle.std.proofs.Math.Path.{◌∙◌}
+use Rattle.std.specs.Prelude.{length}
+use Rattle.std.proofs.Common.{ap, arith}
+use Prim.Native.Nat.{ℕ, ◌*◌, ◌/◌, ◌%◌, ◌^◌, ◌≤◌}
 use Rattle.std.proofs.Math.Pow.{mod-mod-pow}
-use Rattle.window.specs.declared.PackedState.{PackedState}
-use Rattle.window.specs.State.{Held, whole}
+use Rattle.window.specs.State.{whole}
 use Rattle.window.proofs.Tops.{upper_lt, held_fits, held_digit}
 use Rattle.window.proofs.PackedState.get.Lts
 use Rattle.window.proofs.PackedState.get.Reads

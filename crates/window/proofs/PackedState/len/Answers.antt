@@ -1,7 +1,6 @@
 -- `window::PackedState::len` meets its contract: the highest bit of the upper half, or else of the lower, is the marker.
-use Rattle.std.proofs.Common.{arith, rules}
-use Rattle.std.proofs.Math.Nat.{le_trans}
-use Prim.Native.Nat.{ℕ, ◌^◌, ◌<◌, ◌≤◌}
+use Rattle.std.proofs.Common.{arith}
+use Prim.Native.Nat.{◌^◌, ◌<◌}
 use Rattle.std.proofs.Math.Path.{◌≡◌}
 use Rattle.std.specs.Int.Count.{leading_le}
 use Rattle.window.proofs.Tops.{mark_of_hi, mark_of_lo}

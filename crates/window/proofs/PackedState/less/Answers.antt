@@ -1,5 +1,5 @@
 -- `window::PackedState::less` meets its contract.
-use Prim.Native.Nat.{ℕ, ◌^◌}
+use Prim.Native.Nat.{◌^◌}
 use Rattle.std.proofs.Common.{arith}
 use Rattle.window.specs.State.{whole}
 use Rattle.window.proofs.Order.{less_low, less_high}

@@ -1,7 +1,7 @@
 -- `window::PackedState::push` meets its contract: the number is multiplied by 2 ^ 6, and the key added.
-use Rattle.std.proofs.Math.Path.{◌≡◌, ◌∙◌}
-use Rattle.std.specs.Prelude.{refl, length}
-use Rattle.std.proofs.Common.{sym, ap, arith, lit<}
+use Rattle.std.proofs.Math.Path.{◌∙◌}
+use Rattle.std.specs.Prelude.{refl}
+use Rattle.std.proofs.Common.{ap, arith, lit<}
 use Prim.Native.Nat.{ℕ, ◌+◌, ◌*◌, ◌^◌, ◌<◌}
 use Rattle.std.proofs.Math.Nat.{add_comm, mul_comm}
 use Rattle.window.specs.Pack.{pack}
@@ -10,7 +10,6 @@ use Rattle.window.proofs.Halves.{shl_fits, shl_whole}
 use Rattle.window.proofs.Tops.{upper_lt}
 use Rattle.window.proofs.PackedState.push.Lts
 use Rattle.window.proofs.PackedState.push.Reads
-use Rattle.window.proofs.PackedState.push.Tie
 use Rattle.window.proofs.PackedState.push.Goals as goal
 
 -- a window with room leaves the upper half below 2 ^ 57

@@ -1,15 +1,13 @@
 -- `window::PackedState::replace` meets its contract: the digit at idx lies in the lower half, across the halves, or in the upper half.
 use Rattle.std.proofs.Math.Path.{◌≡◌, ◌∙◌}
-use Rattle.std.specs.Prelude.{refl, List, length}
-use Rattle.std.proofs.Common.{sym, ap, subst, add-mul, arith, lit<, pow-add, rules}
-use Prim.Native.Nat.{ℕ, ◌+◌, ◌-◌, ◌*◌, ◌/◌, ◌%◌, ◌^◌, ◌≤◌, ◌<◌}
-use Rattle.std.proofs.Math.Nat.{mul_assoc}
+use Rattle.std.specs.Prelude.{List, length}
+use Rattle.std.proofs.Common.{sym, ap, arith}
+use Prim.Native.Nat.{ℕ, ◌-◌, ◌*◌, ◌/◌, ◌%◌, ◌^◌, ◌≤◌, ◌<◌}
 use Rattle.std.proofs.Math.ListN.{get_or}
 use Rattle.window.specs.State.{Held, whole}
 use Rattle.window.proofs.Halves.{far}
 use Rattle.window.proofs.Put.{near, across_set, upper_set}
 use Rattle.window.proofs.Tops.{held_fits, held_digit, held_set}
-use Rattle.window.proofs.put_key.Reads as put-key-reads
 use Rattle.window.proofs.PackedState.replace.Lts
 use Rattle.window.proofs.PackedState.replace.Reads
 use Rattle.window.proofs.PackedState.replace.Tie

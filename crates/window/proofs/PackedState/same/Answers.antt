@@ -1,5 +1,5 @@
 -- `window::PackedState::same` meets its contract.
-use Prim.Native.Nat.{ℕ, ◌^◌}
+use Prim.Native.Nat.{◌^◌}
 use Rattle.std.proofs.Common.{arith}
 use Rattle.window.specs.State.{whole}
 use Rattle.window.proofs.Order.{same_low, same_high}

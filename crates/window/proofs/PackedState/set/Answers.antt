@@ -1,5 +1,4 @@
 -- `window::PackedState::set` meets its contract: the key that get gives is replaced.
-use Rattle.std.proofs.Common.{rules}
 use Rattle.window.proofs.PackedState.set.Goals as goal
 
 pub replace-requires : goal.replace-requires

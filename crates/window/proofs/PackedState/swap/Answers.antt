@@ -1,12 +1,12 @@
 -- `window::PackedState::swap` meets its contract.
 use Rattle.std.proofs.Math.Path.{◌≡◌}
 use Rattle.std.specs.Prelude.{refl, length, set}
-use Rattle.std.proofs.Common.{sym, subst, subst₂, arith, lt-length-set, rules}
+use Rattle.std.proofs.Common.{subst₂, arith, lt-length-set}
 use mathlib.Core.List.{List, [], ◌∷◌}
 use Prim.Native.Nat.{ℕ, zero, suc, ◌<◌}
 use Rattle.std.proofs.Math.ListN.{get_or}
 use Rattle.window.specs.Laws.{key_lt}
-use Rattle.window.specs.State.{Held, swapped}
+use Rattle.window.specs.State.{Held}
 use Rattle.window.proofs.PackedState.swap.Goals as goal
 
 first : (d : ℕ) (xs : List ℕ) → d < length xs → 0 < length xs

@@ -1,10 +1,9 @@
 -- The first i keys are written, the others are held: the loop's invariant.
-use Rattle.std.proofs.Common.{rules, arith}
-use Prim.Native.Nat.{◌-◌, ◌≤◌, ◌<◌}
-use Rattle.std.proofs.Math.Path.{◌≡◌, ◌∙◌}
-use Rattle.std.specs.Prelude.{length, drop}
+use Rattle.std.proofs.Common.{arith}
+use Prim.Native.Nat.{◌<◌}
+use Rattle.std.specs.Prelude.{length}
 use Rattle.window.specs.Keys.{keys_of}
-use Rattle.window.specs.Written.{Writing, writing_first, key_left, none_left, some_left, some_held, writing_next, writing_last}
+use Rattle.window.specs.Written.{writing_first, key_left, none_left, some_left, some_held, writing_next, writing_last}
 use Rattle.window.proofs.PackedState.write.Lts
 use Rattle.window.proofs.PackedState.write.Reads
 use Rattle.window.proofs.PackedState.write.Tie

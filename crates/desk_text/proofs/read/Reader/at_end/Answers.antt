@@ -1,4 +1,3 @@
-use Rattle.std.proofs.Common.{rules}
 use Rattle.desk_text.specs.Feeding.{end_fed, end_same}
 use Rattle.desk_text.proofs.read.Reader.at_end.Goals as goal
 

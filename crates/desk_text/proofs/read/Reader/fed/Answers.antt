@@ -1,4 +1,3 @@
-use Rattle.std.proofs.Common.{rules}
 use Rattle.desk_text.specs.Feeding.{fed_past, fed_line, fed_space, fed_digit}
 use Rattle.desk_text.proofs.read.Reader.fed.Goals as goal
 

@@ -1,8 +1,5 @@
 use Rattle.std.proofs.Common.{rules}
-use Prim.Native.Nat.{◌-◌}
-use Rattle.std.specs.Prelude.{length}
-use Rattle.desk_text.specs.Noted.{noted}
-use Rattle.desk_text.specs.Feeding.{FedSoFar, feed_start, feed_more, feed_end}
+use Rattle.desk_text.specs.Feeding.{feed_start, feed_more, feed_end}
 use Rattle.desk_text.proofs.read.Reader.feed.Goals as goal
 
 pub loop-i-init : goal.loop-i-init

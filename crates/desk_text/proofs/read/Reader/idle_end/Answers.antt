@@ -1,4 +1,3 @@
-use Rattle.std.proofs.Common.{rules}
 use Rattle.desk_text.specs.Feeding.{idle_none, idle_zeros}
 use Rattle.desk_text.proofs.read.Reader.idle_end.Goals as goal
 

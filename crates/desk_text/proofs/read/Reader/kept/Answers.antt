@@ -1,4 +1,3 @@
-use Rattle.std.proofs.Common.{rules}
 use Rattle.std.specs.Prelude.{refl}
 use Rattle.desk_text.specs.Machine.{kept}
 use Rattle.desk_text.proofs.read.Reader.kept.Goals as goal

@@ -1,4 +1,3 @@
-use Rattle.std.proofs.Common.{rules}
 use Rattle.desk_text.specs.Feeding.{line_fed_word, line_fed_empty}
 use Rattle.desk_text.proofs.read.Reader.line_fed.Goals as goal
 

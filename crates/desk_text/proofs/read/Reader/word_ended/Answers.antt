@@ -1,4 +1,3 @@
-use Rattle.std.proofs.Common.{rules}
 use Rattle.desk_text.specs.Feeding.{word_none, word_many, word_kept}
 use Rattle.desk_text.proofs.read.Reader.word_ended.Goals as goal
 

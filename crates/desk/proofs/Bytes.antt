@@ -1,0 +1,95 @@
+-- The desk's answer where the bytes of its input are known: laws of the code.
+use Rattle.std.proofs.Common.{ℕ, zero, suc, ◌≡◌, ◌≤◌, ◌+◌, ◌-◌, List, [], ◌++◌, None, Some, IfSome, true, refl, sym, ap, subst, ◌∙◌, append_assoc, append-nil, take, length, drop, take_at, take_all, length-take, length-drop, arith}
+use Rattle.std.proofs.Math.Seq.{take-add}
+use Rattle.std.specs.declared.option.Option.{Option}
+use Rattle.std.specs.Io.KnownBytes.{Appends, Consumes, IsAtEnd}
+use Rattle.std.proofs.KnownBytes.{Consumes-nil, Consumes-trans, Appends-trans}
+use Rattle.desk_text.specs.declared.read.Reader.{Reader}
+use Rattle.desk_text.specs.Noted.{Noted, noted}
+use Rattle.desk_text.specs.Machine.{fresh, fed_all}
+use Rattle.desk_text.specs.Meaning.{fed_append}
+use Rattle.desk_text.specs.Question.{question_of}
+use Rattle.desk_text.specs.Reader.{Heard, Fed}
+use Rattle.desk_text.specs.Text.{printed}
+use Rattle.desk_answer.specs.Desk.{desk_answer, Responded}
+use Rattle.desk.specs.Listening.{Whole}
+use Rattle.desk.specs.Bytes.{Listened, RepliedTo}
+
+pub listened_none : (s : Noted) (input : Option (List ℕ)) → Listened s s input input
+unfolding fed_all
+listened_none s input = record { text = []; fed = refl; taken = Consumes-nil input }
+
+pub listened_more : (piece : List ℕ) (s r t : Noted) (a b c : Option (List ℕ)) → Listened s r a b → Fed piece r t → Consumes b c piece → Listened s t a c
+listened_more piece s r t a b c w f h =
+    record {
+      text = w.text ++ piece;
+      fed = f.fed ∙ ap (λ (x : Noted). fed_all x piece) w.fed ∙ sym (fed_append w.text piece s);
+      taken = Consumes-trans a b c w.text piece w.taken h;
+    }
+
+-- the text heard is longer by what was fed
+heard_on : (text more : List ℕ) (s r : Noted) → Heard text s → r ≡ fed_all s more → Heard (text ++ more) r
+heard_on text more s r h e = e ∙ ap (λ (x : Noted). fed_all x more) h ∙ sym (fed_append text more fresh)
+
+module _ (last : Reader) (list : List ℕ) (n : ℕ) (old out : List ℕ) (g : Responded (noted last list) old n out) where
+  -- what was not read is passed over
+  same_question : (count : ℕ) → Whole count last true → (text rest : List ℕ) → (count ≡ 0 → rest ≡ []) → Heard text (noted last list) → question_of (text ++ rest) ≡ question_of text
+  same_question zero w text rest e h = ap question_of (ap (λ (l : List ℕ). text ++ l) (e refl) ∙ append-nil text)
+  same_question (suc count) w text rest e h = w.passed refl (λ z. omega (arith, z)) list text rest h
+
+  answered : (s : Noted) (count : ℕ) (fed rest xs : List ℕ) → noted last list ≡ fed_all s fed → xs ≡ fed ++ rest → Whole count last true → (count ≡ 0 → rest ≡ []) →
+      (text : List ℕ) → Heard text s → (n, out) ≡ printed (desk_answer (question_of (text ++ xs))) old
+  answered s count fed rest xs f e w z text h =
+      let heard : Heard (text ++ fed) (noted last list) = heard_on text fed s (noted last list) h f in
+      let same : text ++ xs ≡ (text ++ fed) ++ rest = ap (λ (l : List ℕ). text ++ l) e ∙ sym (append_assoc text fed rest) in
+      let asked : question_of (text ++ xs) ≡ question_of (text ++ fed) = ap question_of same ∙ same_question count w (text ++ fed) rest z heard in
+      g.says (text ++ fed) heard ∙ ap (λ o. printed (desk_answer o) old) (sym asked)
+
+  by_bytes : (s : Noted) (a b : Option (List ℕ)) (count : ℕ) (fed : List ℕ) → noted last list ≡ fed_all s fed → Consumes a b fed → Whole count last true → (count ≡ 0 → IsAtEnd b) →
+      RepliedTo s a n old out
+  by_bytes s None b count fed f t w z = tt
+  by_bytes s (Some xs) None count fed f t w z = absurd t
+  by_bytes s (Some xs) (Some ys) count fed f t w z = answered s count fed ys xs f t w z
+
+  pub replied_to : (s : Noted) (a b : Option (List ℕ)) (count : ℕ) → Listened s (noted last list) a b → Whole count last true → (count ≡ 0 → IsAtEnd b) → RepliedTo s a n old out
+  replied_to s a b count l w z = by_bytes s a b count l.text l.fed l.taken w z
+
+-- a write more has taken bytes of what was left
+module _ (text : List ℕ) (done more : ℕ) (h : done ≤ length text) where
+  left : List ℕ
+  left = take (length text - done) (drop done text)
+
+  left_is : left ≡ drop done text
+  unfolding left
+  left_is = take_all (length text - done) (drop done text) (omega (arith, length-drop done text))
+
+  pub written_fits : more ≤ length (take (length text - done) (drop done text)) → done + more ≤ length text
+  written_fits k = omega (arith, k, length-take (length text - done) (drop done text), length-drop done text)
+
+  pub written_more : (a b c : Option (List ℕ)) → Appends a b (take done text) → Appends b c (take more (take (length text - done) (drop done text))) → Appends a c (take (done + more) text)
+  unfolding left
+  written_more a b c p q =
+      subst (Appends a c) (ap (λ (l : List ℕ). take done text ++ take more l) left_is ∙ sym (take-add done more text)) (Appends-trans a b c _ _ p q)
+
+-- what was printed stands in front
+printed_front : (t old out : List ℕ) (n : ℕ) → (n, out) ≡ printed t old → take n out ≡ t
+printed_front t old out n e =
+    let a : n ≡ length t = ap (λ (x : ℕ × List ℕ). x.0) e in
+    let b : out ≡ t ++ drop (length t) old = ap (λ (x : ℕ × List ℕ). x.1) e in
+    ap (take n) b ∙ take_at t (drop (length t) old) n (sym a)
+
+-- the first places of the buffer are the desk's answer to the input
+module _ (s : Noted) (input a b : Option (List ℕ)) (n : ℕ) (old out : List ℕ) (h : Heard [] s) where
+  pub all_written : RepliedTo s input n old out → Appends a b (take n out) → IfSome input (λ xs. Appends a b (desk_answer (question_of xs)))
+  all_written r p =
+      elim input as (λ i. RepliedTo s i n old out → IfSome i (λ xs. Appends a b (desk_answer (question_of xs)))) [
+        | None ↦ λ r'. tt
+        | Some xs ↦ λ r'. subst (Appends a b) (printed_front (desk_answer (question_of xs)) old out n (r' [] h)) p
+      ] r
+
+  pub front_written : RepliedTo s input n old out → (k : ℕ) × Appends a b (take k (take n out)) → IfSome input (λ xs. (k : ℕ) × Appends a b (take k (desk_answer (question_of xs))))
+  front_written r p =
+      elim input as (λ i. RepliedTo s i n old out → IfSome i (λ xs. (k : ℕ) × Appends a b (take k (desk_answer (question_of xs))))) [
+        | None ↦ λ r'. tt
+        | Some xs ↦ λ r'. (p.0, subst (λ (l : List ℕ). Appends a b (take p.0 l)) (printed_front (desk_answer (question_of xs)) old out n (r' [] h)) p.1)
+      ] r
