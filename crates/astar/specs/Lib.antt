@@ -1,4 +1,4 @@
--- The bounded A* search over any costs and any problem: definitions, and what is proved of every run.
+-- The bounded A* search over any costs and any problem: definitions, and laws of them. What is proved of every run: proofs/.
 pub mod Cost
 pub mod Order
 pub mod Search
@@ -8,20 +8,13 @@ pub mod Turns
 pub mod Again
 pub mod Lists
 pub mod Room
-pub mod Fuel
 pub mod Sound
 pub mod Store
-pub mod Hold
 pub mod Walk
 pub mod Back
 pub mod Planner
 pub mod Steady
-pub mod Plans
 pub mod Bag
-pub mod Sorted
 pub mod Places
 pub mod Rows
-pub mod Branch
-pub mod Counted
-pub mod Examples
 pub mod Valid

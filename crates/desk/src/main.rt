@@ -83,7 +83,7 @@ fn gave_up() -> io::Error
     io::Error::from(ErrorKind::TimedOut)
 }
 
-// One read into a buffer, tried again after a passing failure. The tries are counted down from a number that no run uses up.
+// One read into a buffer, tried again after a passing failure. The tries are counted up to a number that no run reaches.
 fn read_piece<R: Read>(input: &mut R, clock: &impl Clock, piece: &mut [u8]) -> io::Result<usize>
     ensures bound { ReadsAtMost result piece.new }
     ensures bytes { ReadConsumes (R.remaining input.old) (R.remaining input.new) result piece.new }
@@ -150,7 +150,7 @@ fn is_over(last: Turn) -> bool {
 }
 
 // Reads on, piece by piece, until there is nothing more to read; the last piece. The reader was fed with the pieces and with nothing
-// else, in their order. The turns are counted down from a number that no run uses up; if they were, the input would not be whole.
+// else, in their order. The turns are counted up to a number that no run reaches; if one did, the input would not be whole.
 fn listen<R: Read>(
     input: &mut R,
     clock: &impl Clock,
@@ -216,7 +216,7 @@ fn put_some<W: Write>(output: &mut W, clock: &impl Clock, text: &[u8]) -> io::Re
     }
 }
 
-// Writes all of a text, in as many writes as it takes, or fails behind its first bytes. The tries are counted down as above.
+// Writes all of a text, in as many writes as it takes, or fails behind its first bytes. The tries are counted as above.
 fn put_all<W: Write>(output: &mut W, clock: &impl Clock, text: &[u8]) -> io::Result<()>
     ensures all { OnOk result (Appends (W.contents output.old) (W.contents output.new) text.now) }
     ensures front { (k : ℕ) × Appends (W.contents output.old) (W.contents output.new) (take k text.now) }

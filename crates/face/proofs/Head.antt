@@ -11,7 +11,8 @@ use Rattle.std.proofs.lemmas.Bool.{eqb-false}
 use Rattle.costs.specs.declared.Cost.{Cost}
 use Rattle.algebra.specs.GasBytes.{gas_bytes}
 use Rattle.astar.specs.Search.{Entry as Waiting, before}
-use Rattle.astar.specs.Bag.{sorted, taken, filled, dropped}
+use Rattle.astar.specs.Bag.{sorted}
+use Rattle.astar.proofs.Bag.{taken, filled, dropped}
 use Rattle.face.specs.Open.{entry_of, queue_in, no_later, zero, at, least_at, least_of, without, held, Taken, Removed}
 use Rattle.face.specs.declared.Entry.{Entry}
 use Rattle.face.specs.declared.Least.TheVariants.{Is, Empty}

@@ -9,7 +9,8 @@ use Rattle.costs.specs.declared.Cost.{Cost}
 use Rattle.algebra.specs.GasBytes.{gas_bytes}
 use Rattle.astar.specs.Search.{Entry as Waiting, push}
 use Rattle.astar.specs.Tests.{by_cond}
-use Rattle.astar.specs.Bag.{before_total, sorted, sorted_push}
+use Rattle.astar.specs.Bag.{sorted}
+use Rattle.astar.proofs.Bag.{before_total, sorted_push}
 use Rattle.face.specs.Open.{entry_of, queue_in, no_later, at, lesser_at, least_from, least_at, least_of, without, free, held, drawn, foremost, Pushed, Taken}
 use Rattle.face.specs.declared.Entry.{Entry}
 use Rattle.face.specs.declared.Least.{Least}

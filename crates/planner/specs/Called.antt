@@ -13,7 +13,7 @@ use Rattle.replay.specs.Highest.{highest_fits, highest_none}
 use Rattle.marking.specs.Marking.{marked}
 use Rattle.algebra.specs.GasBytes.{gas_bytes}
 use Rattle.astar.specs.Planner.{Found}
-use Rattle.astar.specs.Counted.{planned_in_bounds, planned_still}
+use Rattle.astar.proofs.Counted.{planned_in_bounds, planned_still}
 use Rattle.problem.specs.Problem.{problem_of, bounded}
 use Rattle.planner.specs.Refusal.{Asked, Lent, narrow, plan_refusal}
 use Rattle.planner.specs.Planned.{question_of, listed, plan_held, before, answered, fields_of, refused, steps_with, given, planned_on, planned_for}

@@ -18,9 +18,9 @@ use Rattle.algebra.specs.GasBytes.{gas_bytes, sum_is, domain_fits}
 use Rattle.astar.specs.Search.{Problem, Allowance, Search, Node, enough, run, read_back}
 use Rattle.astar.specs.Turns.{Reach, here}
 use Rattle.astar.specs.Tests.{by_cond}
-use Rattle.astar.specs.Fuel.{search_ends}
+use Rattle.astar.proofs.Fuel.{search_ends}
 use Rattle.astar.specs.Room.{Bounded}
-use Rattle.astar.specs.Plans.{Route, plan_source}
+use Rattle.astar.proofs.Plans.{Route, plan_source}
 use Rattle.astar.specs.Planner.{Found, Answer as Answered, given, sum_steps, read_at, plan_at, plan_of, first, searched, planned}
 use Rattle.problem.specs.Problem.{problem_of, bounded}
 use Rattle.problem.specs.Replays.{walk_replays}

@@ -19,8 +19,9 @@ use Rattle.astar.specs.Cost.{same}
 use Rattle.astar.specs.Search.{Problem, Succ, Allowance, Ending, drained, cutOff, states, expansions, number, Entry, Work, Hand, Search, find, entry_of, step_of, cut, record_goal, offers, over, without, turn, stop, go, Turn}
 use Rattle.astar.specs.Turns.{Reach, here}
 use Rattle.astar.specs.Rows.{length_rows}
-use Rattle.astar.specs.Valid.{AllValid, first_valid, go_valid}
-use Rattle.astar.specs.Branch.{turn_drained, turn_lost, turn_stale, turn_goal, turn_cut, turn_states, turn_expansions, turn_expands, reach_on}
+use Rattle.astar.specs.Valid.{AllValid}
+use Rattle.astar.proofs.Valid.{first_valid, go_valid}
+use Rattle.astar.proofs.Branch.{turn_drained, turn_lost, turn_stale, turn_goal, turn_cut, turn_states, turn_expansions, turn_expands, reach_on}
 use Rattle.heap.specs.Heap.{sort}
 use Rattle.heap.specs.declared.Entry.{Entry as Waiting}
 use Rattle.successors.specs.Successors.{Question}

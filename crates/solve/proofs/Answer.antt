@@ -19,10 +19,10 @@ use Rattle.astar.specs.Search.{Problem, Hand, Search, Ending, number, find, pare
 use Rattle.astar.specs.Again.{Ends}
 use Rattle.astar.specs.Room.{Bounded}
 use Rattle.astar.specs.Sound.{Good}
-use Rattle.astar.specs.Hold.{reach_good, begin_good}
+use Rattle.astar.proofs.Hold.{reach_good, begin_good}
 use Rattle.astar.specs.Back.{Plan, reads_back}
 use Rattle.astar.specs.Planner.{Found, Answer, given, sum_steps, read_at, plan_at, plan_of, first, answer_of, searched}
-use Rattle.astar.specs.Branch.{searched_is}
+use Rattle.astar.proofs.Branch.{searched_is}
 use Rattle.costs.specs.Table.{prices_fault}
 use Rattle.successors.specs.Successors.{Question}
 use Rattle.successors.specs.Limits.{Bounds}

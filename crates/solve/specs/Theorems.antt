@@ -14,13 +14,15 @@ use Rattle.algebra.specs.GasBytes.{gas_bytes, domain_fits}
 use Rattle.astar.specs.Pairs.{sat_exact}
 use Rattle.astar.specs.Search.{Problem, Succ, Allowance, Search, Entry, Node, find, begin, enough, run, read_back}
 use Rattle.astar.specs.Turns.{Reach}
-use Rattle.astar.specs.Room.{Bounded, Within, reach_within, begin_within}
-use Rattle.astar.specs.Fuel.{Done, search_ends}
+use Rattle.astar.specs.Room.{Bounded, Within}
+use Rattle.astar.proofs.Room.{reach_within, begin_within}
+use Rattle.astar.proofs.Fuel.{Done, search_ends}
 use Rattle.astar.specs.Sound.{Good}
-use Rattle.astar.specs.Hold.{reach_good, begin_good}
+use Rattle.astar.proofs.Hold.{reach_good, begin_good}
 use Rattle.astar.specs.Back.{Plan, reads_back}
 use Rattle.astar.specs.Walk.{Distinct, tos, steps}
-use Rattle.astar.specs.Valid.{AllValid, reach_valid, begin_valid}
+use Rattle.astar.specs.Valid.{AllValid}
+use Rattle.astar.proofs.Valid.{reach_valid, begin_valid}
 use Rattle.successors.specs.Successors.{Question}
 use Rattle.successors.specs.Limits.{Bounds}
 use Rattle.heuristic.specs.Heuristic.{heuristic_of, estimate, least_dup}

@@ -1,7 +1,7 @@
 -- The claim about two answers, from what the planner ensures of each.
 use Rattle.replay.specs.Machine.{plain_rules, above}
 use Rattle.planner.specs.Refusal.{asked, allowances}
-use Rattle.planner.specs.Steady.{demand_3_called}
+use Rattle.planner.proofs.Demand.{demand_3_called}
 use Rattle.steady.proofs.plan_twice.Goals as goal
 
 pub returns : goal.returns

@@ -7,10 +7,11 @@ use mathlib.Core.List.{List, [], ◌∷◌}
 use native.Mathlib.Omega.{arith}
 use Rattle.astar.specs.Cost.{CostAlgebra, same}
 use Rattle.astar.specs.Search.{Problem, Allowance, Ending, drained, cutOff, states, expansions, number, Search, Turn, stop, go, Entry, Node, find, cut, over, visit, drawn, turn_on, turn, without, begin, run, enough}
-use Rattle.astar.specs.Turns.{Reach, here, next, Keeps, of_go}
+use Rattle.astar.specs.Turns.{Reach, here, next, Keeps}
+use Rattle.astar.proofs.Turns.{of_go}
 use Rattle.astar.specs.Tests.{by_cond}
 use Rattle.astar.specs.Room.{Bounded}
-use Rattle.astar.specs.Fuel.{Done, search_ends}
+use Rattle.astar.proofs.Fuel.{Done, search_ends}
 use Rattle.astar.specs.Planner.{Found, Answer, given, numbered, first, searched, planned}
 
 -- P holds of the ending by which a turn stops

@@ -1,0 +1,2 @@
+-- Theorems on answers.
+pub mod Demand
