@@ -1,4 +1,4 @@
-/* The proved functions under those of nimskerf.h, as crate capi exports them.
+/* The proved functions under those of nimskerf.h, as crate capi_c exports them.
  *
  * Their contracts speak of lists as the language knows them: a pointer that is not NULL, also where the length is 0,
  * aligned for its entries, to that many entries; and a list that a function writes (no `const`) shares memory with no

@@ -1,4 +1,4 @@
-//! `sys` beside the headers and crate capi: the same declarations, and the same answers to the calls of tests/calls.c.
+//! `sys` beside the headers and crate capi_c: the same declarations, and the same answers to the calls of tests/calls.c.
 
 use nimskerf::sys::*;
 use std::{
@@ -11,7 +11,7 @@ use std::{
 const SYS: &str = include_str!("../src/sys.rs");
 const HEADER: &str = include_str!("../../include/nimskerf.h");
 const PROVED_HEADER: &str = include_str!("../../include/nimskerf_proved.h");
-const CAPI: &str = include_str!("../../crates/capi/src/lib.rt");
+const CAPI: &str = include_str!("../../crates/capi_c/src/lib.rt");
 const EXPECTED: &str = include_str!("../../tests/calls.txt");
 
 /// The structs that capi's functions return, and what the headers call them.
@@ -127,7 +127,7 @@ fn rust_functions(text: &str, begin: &str, end: char) -> Declarations {
         .collect()
 }
 
-/// A slice passes as a pointer, then a length.
+/// A slice passes as a pointer, then a length. The header's `result` is `res` in a language that gives the word to what is returned.
 fn passed(place: String) -> Vec<String> {
     let Some((name, slice)) = place.split_once(": &") else {
         return vec![place];
@@ -136,6 +136,7 @@ fn passed(place: String) -> Vec<String> {
         Some(entries) => ("*mut", entries),
         None => ("*const", slice),
     };
+    let name = if name == "res" { "result" } else { name };
     vec![format!("{name}: {pointer} {}", entries.trim_matches(['[', ']'])), format!("{name}_len: usize")]
 }
 

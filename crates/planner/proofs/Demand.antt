@@ -1,25 +1,20 @@
 -- Demand 3, proved: of two answers before they become fields, of their fields and step lists, and as callers got them.
-use Rattle.std.specs.Prelude.{ℕ, zero, suc, Bool, true, false, List, [], ◌≡◌, refl, T, eqb, length, take, drop}
-use Rattle.std.proofs.Common.{ap, sym, ◌∙◌, subst, arith, ne_eqb, take_at}
-use Rattle.std.proofs.Math.Option.{Option, none, some, some-injective}
+use Rattle.std.specs.Prelude.{ℕ, zero, suc, true, false, List, ◌≡◌, refl, T, eqb}
+use Rattle.std.proofs.Common.{ap, sym, ◌∙◌, subst, arith, ne_eqb}
+use Rattle.std.proofs.Math.Option.{Option, none, some}
 use Rattle.costs.specs.Choice.{◌if◌otherwise◌}
 use Rattle.costs.specs.Cost.{no_more}
 use Rattle.costs.specs.declared.Cost.{Cost}
 use Rattle.replay.specs.Machine.{Rules}
 use Rattle.replay.specs.Beneath.{narrowed}
-use Rattle.algebra.specs.GasBytes.{gas_bytes, le_is, domain_fits}
+use Rattle.algebra.specs.GasBytes.{gas_bytes}
 use Rattle.astar.specs.Search.{Allowance}
 use Rattle.astar.specs.Again.{◌⊑◌}
-use Rattle.astar.specs.Tests.{T_true}
 use Rattle.astar.specs.Planner.{Found, Answer as Answered}
 use Rattle.astar.specs.Steady.{Settled, Steady}
-use Rattle.astar.proofs.Steady.{steady}
-use Rattle.problem.specs.Problem.{problem_of, bounded}
-use Rattle.problem.specs.Replays.{price_listed}
-use Rattle.incumbent.specs.Hand.{Held}
 use Rattle.planner.specs.Refusal.{Asked, Lent, narrow, plan_refusal}
-use Rattle.planner.specs.Planned.{question_of, listed, plan_held, before, answered, fields_of, refused, steps_with, planned_on, planned_for}
-use Rattle.planner.specs.Accepted.{Accepted, accepted, bounds}
+use Rattle.planner.specs.Planned.{answered, fields_of, refused, steps_with, planned_on, planned_for}
+use Rattle.planner.specs.Accepted.{accepted}
 use Rattle.planner.specs.declared.Answer.{Answer}
 use Rattle.planner.specs.Steady.{allowing, plan_cost, pass_mark, Demand3, steady_answers, le_more, plan_of, fields, no_plan, taken}
 

@@ -1,12 +1,11 @@
 -- Demand 3: what two answers to one question have to do with each other, of their fields and step lists as callers hold them.
-use Rattle.std.specs.Prelude.{ℕ, zero, suc, Bool, true, false, List, [], ◌≡◌, refl, T, eqb, length, take, drop}
-use Rattle.std.proofs.Common.{ap, sym, ◌∙◌, subst, arith, ne_eqb, take_at}
+use Rattle.std.specs.Prelude.{ℕ, Bool, true, false, List, [], ◌≡◌, refl, T, eqb, length, take, drop}
+use Rattle.std.proofs.Common.{sym, ◌∙◌, subst, arith, take_at}
 use Rattle.std.proofs.Math.Option.{Option, none, some, some-injective}
 use Rattle.costs.specs.Choice.{◌if◌otherwise◌}
 use Rattle.costs.specs.Cost.{no_more}
 use Rattle.costs.specs.declared.Cost.{Cost}
 use Rattle.replay.specs.Machine.{Rules}
-use Rattle.replay.specs.Beneath.{narrowed}
 use Rattle.algebra.specs.GasBytes.{gas_bytes, le_is, domain_fits}
 use Rattle.astar.specs.Search.{Allowance}
 use Rattle.astar.specs.Again.{◌⊑◌}
@@ -17,9 +16,9 @@ use Rattle.astar.proofs.Steady.{steady}
 use Rattle.problem.specs.Problem.{problem_of, bounded}
 use Rattle.problem.specs.Replays.{price_listed}
 use Rattle.incumbent.specs.Hand.{Held}
-use Rattle.planner.specs.Refusal.{Asked, Lent, narrow, plan_refusal}
-use Rattle.planner.specs.Planned.{question_of, listed, plan_held, before, answered, fields_of, refused, steps_with, planned_on, planned_for}
-use Rattle.planner.specs.Accepted.{Accepted, accepted, bounds}
+use Rattle.planner.specs.Refusal.{Asked, Lent}
+use Rattle.planner.specs.Planned.{question_of, listed, plan_held, before, answered, fields_of, steps_with}
+use Rattle.planner.specs.Accepted.{Accepted, bounds}
 use Rattle.planner.specs.declared.Answer.{Answer}
 
 -- the same question with other allowances
