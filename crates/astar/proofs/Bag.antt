@@ -66,20 +66,20 @@ module _ (K : CostAlgebra) where
 
   -- ---- the queue that a list of entries stands for
 
-  pub sorted_length : (es : List (Entry K.C)) → length ((sorted K) es) ≡ length es
+  pub sorted_length : (es : List (Entry K.C)) → length (sorted K es) ≡ length es
   unfolding sorted
   sorted_length [] = refl
-  sorted_length (e ∷ es) = push_length K e ((sorted K) es) ∙ ap suc (sorted_length es)
+  sorted_length (e ∷ es) = push_length K e (sorted K es) ∙ ap suc (sorted_length es)
 
   -- an entry anywhere in the list is pushed
-  pub sorted_middle : (xs : List (Entry K.C)) (e : Entry K.C) (ys : List (Entry K.C)) → (sorted K) (xs ++ (e ∷ ys)) ≡ push K e ((sorted K) (xs ++ ys))
+  pub sorted_middle : (xs : List (Entry K.C)) (e : Entry K.C) (ys : List (Entry K.C)) → sorted K (xs ++ (e ∷ ys)) ≡ push K e (sorted K (xs ++ ys))
   unfolding sorted
   sorted_middle [] e ys = refl
-  sorted_middle (x ∷ xs) e ys = ap (push K x) (sorted_middle xs e ys) ∙ push_comm x e ((sorted K) (xs ++ ys))
+  sorted_middle (x ∷ xs) e ys = ap (push K x) (sorted_middle xs e ys) ∙ push_comm x e (sorted K (xs ++ ys))
 
   -- a push: the entry behind the others
-  pub sorted_push : (xs : List (Entry K.C)) (e : Entry K.C) → (sorted K) (xs ++ (e ∷ [])) ≡ push K e ((sorted K) xs)
-  sorted_push xs e = sorted_middle xs e [] ∙ ap (λ (l : List (Entry K.C)). push K e ((sorted K) l)) (append-nil xs)
+  pub sorted_push : (xs : List (Entry K.C)) (e : Entry K.C) → sorted K (xs ++ (e ∷ [])) ≡ push K e (sorted K xs)
+  sorted_push xs e = sorted_middle xs e [] ∙ ap (λ (l : List (Entry K.C)). push K e (sorted K l)) (append-nil xs)
 
   -- ---- a take: the least of the list
 
@@ -101,13 +101,13 @@ module _ (K : CostAlgebra) where
       (λ _ x m. ⊎_elim (λ d. subst (λ (z : Entry K.C). T (before K e z)) (sym d) h) (λ r. k x r) (mathlib.Core.List.Memᴰ.cases_cons m))
       (λ _ x m. ⊎_elim (λ d. k x (mathlib.Core.List.Memᴰ.head d)) (λ r. least_push e a ys h (λ z n. k z (mathlib.Core.List.Memᴰ.tail n)) x r) (mathlib.Core.List.Memᴰ.cases_cons m))
 
-  least_sorted : (e : Entry K.C) (xs : List (Entry K.C)) → Least e xs → Least e ((sorted K) xs)
+  least_sorted : (e : Entry K.C) (xs : List (Entry K.C)) → Least e xs → Least e (sorted K xs)
   unfolding sorted
   least_sorted e [] h = h
-  least_sorted e (x ∷ xs) h = least_push e x ((sorted K) xs) (h x (mathlib.Core.List.Memᴰ.head refl)) (least_sorted e xs (λ z m. h z (mathlib.Core.List.Memᴰ.tail m)))
+  least_sorted e (x ∷ xs) h = least_push e x (sorted K xs) (h x (mathlib.Core.List.Memᴰ.head refl)) (least_sorted e xs (λ z m. h z (mathlib.Core.List.Memᴰ.tail m)))
 
-  pub sorted_least : (xs : List (Entry K.C)) (e : Entry K.C) (ys : List (Entry K.C)) → Least e (xs ++ ys) → (sorted K) (xs ++ (e ∷ ys)) ≡ e ∷ (sorted K) (xs ++ ys)
-  sorted_least xs e ys h = sorted_middle xs e ys ∙ push_least e ((sorted K) (xs ++ ys)) (least_sorted e (xs ++ ys) h)
+  pub sorted_least : (xs : List (Entry K.C)) (e : Entry K.C) (ys : List (Entry K.C)) → Least e (xs ++ ys) → sorted K (xs ++ (e ∷ ys)) ≡ e ∷ sorted K (xs ++ ys)
+  sorted_least xs e ys h = sorted_middle xs e ys ∙ push_least e (sorted K (xs ++ ys)) (least_sorted e (xs ++ ys) h)
 
   -- ---- the same by places, as code has it: es are the entries of a lent list, the least stands at i, and the last at m takes its place
 
@@ -128,7 +128,7 @@ module _ (K : CostAlgebra) where
     pub taken :
         (es : List (Entry K.C)) (i : ℕ) → i < length es →
         ((k : ℕ) → k < length es → T (before K (get_or es i d) (get_or es k d))) →
-        (sorted K) es ≡ get_or es i d ∷ (sorted K) (take i es ++ drop (suc i) es)
+        sorted K es ≡ get_or es i d ∷ sorted K (take i es ++ drop (suc i) es)
     taken es i h least =
         ap (sorted K) (split_at es i d h)
         ∙ sorted_least (take i es) (get_or es i d) (drop (suc i) es) (λ x m.
@@ -138,7 +138,7 @@ module _ (K : CostAlgebra) where
     -- and the last takes its place
     pub filled :
         (es : List (Entry K.C)) (i m : ℕ) → length es ≡ suc m → i < m →
-        (sorted K) (take m (set es i (get_or es m d))) ≡ (sorted K) (take i es ++ drop (suc i) es)
+        sorted K (take m (set es i (get_or es m d))) ≡ sorted K (take i es ++ drop (suc i) es)
     filled es i m n h =
         let l : Entry K.C = get_or es m d in
         let j : ℕ = m - suc i in
@@ -151,5 +151,5 @@ module _ (K : CostAlgebra) where
         ap (sorted K) cut ∙ sorted_middle (take i es) l (take j D) ∙ sym (sorted_push (take i es ++ take j D) l) ∙ ap (sorted K) (append_assoc (take i es) (take j D) (l ∷ []) ∙ ap (take i es ++◌) (sym back))
 
     -- the last itself
-    pub dropped : (es : List (Entry K.C)) (m : ℕ) → length es ≡ suc m → (sorted K) (take m es) ≡ (sorted K) (take m es ++ drop (suc m) es)
+    pub dropped : (es : List (Entry K.C)) (m : ℕ) → length es ≡ suc m → sorted K (take m es) ≡ sorted K (take m es ++ drop (suc m) es)
     dropped es m n = ap (sorted K) (sym (append-nil (take m es)) ∙ ap (take m es ++◌) (sym (drop_of_length-le es {i = suc m} (omega arith))))
