@@ -80,7 +80,7 @@ check:
 	tests/check
 
 clean:
-	rm -rf target/c target/lib target/tests
+	rm -rf target/bin target/c target/lib target/staticlib target/tests
 
 FORCE:
 

@@ -144,10 +144,10 @@ static int as_expected(struct ran r) {
     return 1;
 }
 
-// One line on standard error, and on standard output no more than is given.
+// One line on standard error, status 1, and on standard output no more than is given.
 static int complains(struct ran r, const char *out) {
     size_t n = strlen(r.err);
-    if (!WIFEXITED(r.status))
+    if (!WIFEXITED(r.status) || WEXITSTATUS(r.status) != 1)
         return fail("status %x", (unsigned)r.status);
     if (strcmp(r.out, out))
         return fail("wrote `%s`", r.out);

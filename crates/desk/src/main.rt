@@ -201,6 +201,7 @@ fn reply<R: Read>(
 // One write. After a passing failure it has taken nothing and not failed; a write that takes nothing has failed.
 fn put_some<W: Write>(output: &mut W, clock: &impl Clock, text: &[u8]) -> io::Result<usize>
     ensures bound { WritesAtMost result text.now }
+    ensures retried { IfErr result (λ e. Passing (error_kind e) → ⊥) }
     ensures bytes { WriteAppends (W.contents output.old) (W.contents output.new) result text.now }
 {
     match output.write(text) {
