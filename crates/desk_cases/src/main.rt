@@ -1,6 +1,6 @@
 // A table of desk inputs, run through the desk's answer and compared byte by byte.
 //
-// The table is the standard input. A case is `name|input|expected|`, with a line feed before the next; in an input a `*` stands for
+// The table is the standard input, up to 65,536 bytes. A case is `name|input|expected|`, with a line feed before the next; in an input a `*` stands for
 // 1,000 digits `0`. The program writes how many inputs were answered as expected, or the index and the name of the first that was not.
 #![tactic(auto)]
 
@@ -160,5 +160,6 @@ fn main(rt: HostRuntime) -> io::Result<()> {
     let mut table = Vec::new(rt.alloc());
     let mut input = rt.stdin();
     input.read_to_end(&mut table)?;
-    run(&rt, &table)
+    let n = table.len().min(65536);
+    run(&rt, &table[..n])
 }
