@@ -25,7 +25,7 @@ fn text_room() -> [u8; 32768]
     [0; 32768]
 }
 
-// Room for a case's input written out.
+// Room for the table, and for a case's input written out.
 fn input_room() -> [u8; 65536]
     ensures { length result ≡ 65536 }
 {
@@ -156,10 +156,24 @@ fn run(rt: &impl Print, table: &[u8]) -> io::Result<()> {
     println!(rt; "no table")
 }
 
+// Reads until the list is full, the input ends or a read fails, and says how many bytes stand in the list.
+fn read_full<R: Read>(input: &mut R, list: &mut [u8]) -> usize
+    ensures { result ≤ length list.new }
+{
+    let mut done: usize = 0;
+    while done < list.len() {
+        let n = input.read(&mut list[done..]).unwrap_or(0);
+        if n == 0 {
+            break;
+        }
+        done += n;
+    }
+    done
+}
+
 fn main(rt: HostRuntime) -> io::Result<()> {
-    let mut table = Vec::new(rt.alloc());
+    let mut table = input_room();
     let mut input = rt.stdin();
-    input.read_to_end(&mut table)?;
-    let n = table.len().min(65536);
+    let n = read_full(&mut input, &mut table);
     run(&rt, &table[..n])
 }

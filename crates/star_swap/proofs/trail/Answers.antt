@@ -13,17 +13,14 @@ arc_low_at c =
     let p = c.requires in
     arc_low _ _ _ p.short _ _ _ _ _ _ _ c.loop-stack.invariant c.if-pos.false p.keys p.need p.slots p.held p.few
 
--- src/lib.rt:19:5
 pub loop-stack-init : goal.loop-stack-init
 loop-stack-init c = begin _ _ _ _ _ _ c.requires.head_length c.requires.out_length refl c.requires.start_key
 
--- src/lib.rt:19:5
 pub loop-stack-preserved-then-sp-eq0-2 : goal.loop-stack-preserved-then-sp-eq0-2
 loop-stack-preserved-then-sp-eq0-2 c =
     pop _ _ _ c.requires.short _ _ _ _ _ _ _ c.loop-stack.invariant c.if-pos.true _ (omega arith) _ c.requires.start_key
     (key_start c.args.cur.now c.args.start _ _ c.if-sp-eq0-2.true)
 
--- src/lib.rt:32:29
 pub overflow_cast-below : goal.overflow_cast-below
 overflow_cast-below c =
     omega (
@@ -32,31 +29,25 @@ overflow_cast-below c =
       c.requires.short,
     )
 
--- src/lib.rt:33:23
 pub bounds-cur-below : goal.bounds-cur-below
 bounds-cur-below c =
     c.loop-stack.invariant.slots_low (c.loop-stack.sp - 1 - 1) (omega arith)
 
--- src/lib.rt:19:5
 pub loop-stack-preserved-else-sp-eq0-2 : goal.loop-stack-preserved-else-sp-eq0-2
 loop-stack-preserved-else-sp-eq0-2 c =
     pop _ _ _ c.requires.short _ _ _ _ _ _ _ c.loop-stack.invariant c.if-pos.true _ (omega arith) _
     (c.requires.keys _ (c.loop-stack.invariant.slots_low (c.loop-stack.sp - 1 - 1) (omega arith)))
     (key_of_lem c.args.cur.now c.args.start _ _ (omega arith))
 
--- src/lib.rt:36:22
 pub overflow_cast-at : goal.overflow_cast-at
 overflow_cast-at c = omega (arith, arc_low_at c.before, c.requires.short)
 
--- src/lib.rt:37:23
 pub bounds-next-at : goal.bounds-next-at
 bounds-next-at c = omega (arith, arc_low_at c.before.before, c.requires.short)
 
--- src/lib.rt:40:19
 pub bounds-cur-at : goal.bounds-cur-at
 bounds-cur-at c = arc_low_at c.before.before.before.before
 
--- src/lib.rt:19:5
 pub loop-stack-smaller : goal.loop-stack-smaller
 loop-stack-smaller c =
     let p = c.requires in
@@ -65,13 +56,11 @@ loop-stack-smaller c =
       arc_room _ _ _ p.short _ _ _ _ _ _ _ c.loop-stack.invariant c.if-pos.false p.keys p.need p.slots p.held p.few,
     )
 
--- src/lib.rt:19:5
 pub loop-stack-preserved : goal.loop-stack-preserved
 loop-stack-preserved c =
     let p = c.requires in
     push _ _ _ p.short _ _ _ _ _ _ _ c.loop-stack.invariant c.if-pos.false p.keys p.need p.slots p.held p.few
 
--- src/lib.rt:10:1
 pub returns : goal.returns
 returns c =
     record {

@@ -8,7 +8,6 @@ use Rattle.window.proofs.put_key.Lts
 use Rattle.window.proofs.put_key.Reads
 use Rattle.window.proofs.put_key.Goals as goal
 
--- src/lib.rt:19:5
 -- the old digit and the new one at its place, and that there is room
 shifted : (c : Lts.Start Reads.Pre Reads.Post) → (c.args.old * 2 ^ c.args.s % 2 ^ 64 ≡ c.args.old * 2 ^ c.args.s)
     × (c.args.new * 2 ^ c.args.s % 2 ^ 64 ≡ c.args.new * 2 ^ c.args.s)
@@ -28,10 +27,8 @@ shifted c =
 pub overflow_sub-result : goal.overflow_sub-result
 overflow_sub-result c = rw (shifted c).0 (shifted c).2
 
--- src/lib.rt:19:5
 pub overflow_add-result : goal.overflow_add-result
 overflow_add-result c = rw ((shifted c).0, (shifted c).1) (record { fits = (shifted c).3 })
 
--- src/lib.rt:15:1
 pub returns : goal.returns
 returns c = rw ((shifted c).0, (shifted c).1) (omega (arith, (shifted c).2))

@@ -7,20 +7,17 @@ use Rattle.window.specs.State.{whole}
 use Rattle.window.proofs.Halves.{shr_fits, shr_low, factors, two_pos, far}
 use Rattle.window.proofs.PackedState.bits_at.Goals as goal
 
--- src/lib.rt:37:13
 pub overflow_add-result : goal.overflow_add-result
 overflow_add-result c =
     let a = c.args in rw (mul_assoc a.self.hi 2 (2 ^ (63 - a.s)))
     (record { fits = shr_fits (2 ^ a.s) (2 * 2 ^ (63 - a.s)) (2 ^ 64) (pow_pos a.s) (two_pos (63 - a.s)) (factors a.s c.if-s-lt64.true) a.self.hi a.self.lo (omega arith) })
 
--- src/lib.rt:30:5
 pub returns-then-s-lt64 : goal.returns-then-s-lt64
 unfolding whole
 returns-then-s-lt64 c =
     let a = c.args in rw (mul_assoc a.self.hi 2 (2 ^ (63 - a.s)))
     (shr_low (2 ^ a.s) (2 * 2 ^ (63 - a.s)) (2 ^ 64) (pow_pos a.s) (two_pos (63 - a.s)) (factors a.s c.if-s-lt64.true) a.self.hi a.self.lo (omega arith))
 
--- src/lib.rt:30:5
 pub returns-else-s-lt64 : goal.returns-else-s-lt64
 unfolding whole
 returns-else-s-lt64 c =
