@@ -24,8 +24,8 @@ SHARED := libnimskerf.so.$(VERSION)
 LIB := target/lib
 OBJECTS := target/c/nimskerf.o target/c/words.o
 HEADERS := include/nimskerf.h include/nimskerf_proved.h
-# What libcapi.a is made from: capi_c, capi and the crates under it.
-CRATES := capi_c capi $(shell sed -n 's/^capi://p' crates.txt)
+# What libcapi.a is made from: capi_c and the crates under it.
+CRATES := capi_c $(shell sed -n 's/^capi_c staticlib://p' crates.txt)
 SOURCES := crates.txt $(shell find $(CRATES:%=crates/%) -name out -prune -o \( -name '*.rt' -o -name '*.antt' \) -print)
 
 all: $(LIB)/libnimskerf.a $(LIB)/libnimskerf.so

@@ -14,7 +14,7 @@ const PROVED_HEADER: &str = include_str!("../../include/nimskerf_proved.h");
 const CAPI: &str = include_str!("../../crates/capi_c/src/lib.rt");
 const EXPECTED: &str = include_str!("../../tests/calls.txt");
 
-/// The structs that capi's functions return, and what the headers call them.
+/// The structs that capi_c's functions return, and what the headers call them.
 const RETURNED: [(&str, &str, &str); 6] = [
     (include_str!("../../crates/planner/src/lib.rt"), "Answer", "NimskerfAnswer"),
     (include_str!("../../crates/replay/src/lib.rt"), "Replayed", "NimskerfReplayed"),

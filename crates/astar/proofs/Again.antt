@@ -3,7 +3,7 @@ use Rattle.std.specs.Prelude.{◌≡◌, ◌⊎◌, Bool, true, false, cond, not
 use Rattle.std.proofs.Math.Path.{refl}
 use Rattle.std.proofs.Common.{sym, ap, ◌∙◌, subst, inr, ⊎_elim, arith, leb→le, le→leb, ltb→lt, lt→ltb}
 use Rattle.std.proofs.Math.Logic.{inl}
-use Rattle.std.proofs.Math.Option.{Option, none, some}
+use Rattle.std.specs.Prelude.{Option, None, Some}
 use mathlib.Core.List.{List, [], ◌∷◌}
 use Prim.Native.Nat.{ℕ, ◌≤◌}
 use Rattle.std.proofs.Math.ListN.{length}
@@ -66,8 +66,8 @@ module _ (K : CostAlgebra) (Q : Problem K) (A A' : Allowance) (more : A ⊑ A') 
 
   drawn_again : (s : Search K.C Q.Step) (e : Entry K.C) (o : Option (Node K.C Q.Step)) → Agree (drawn K Q A s e o) (drawn K Q A' s e o)
   unfolding drawn visit
-  drawn_again s e none = inl refl
-  drawn_again s e (some n) =
+  drawn_again s e None = inl refl
+  drawn_again s e (Some n) =
       agree_test
       (same K e.g n.cost)
       _ _ _ _
@@ -140,7 +140,7 @@ module _ (K : CostAlgebra) where
       by_cond
       (NoWorse K H)
       (not H.have || lt K g H.bound)
-      (λ t. record { stays = λ _. tt; no_higher = cheaper H g H.have t; recorded_stays = λ _. tt })
+      (λ t. record { stays = λ _. tt; no_higher = cheaper H g H.have t; recorded_stays = λ _. refl })
       (λ _. no_worse_refl H)
 
   module _ (Q : Problem K) (A : Allowance) where

@@ -2,7 +2,7 @@
 use Rattle.std.specs.Prelude.{◌≡◌, refl, ℕ, ◌<◌, ◌≤◌, leb, eqb}
 use Rattle.std.proofs.Common.{sym}
 use Rattle.std.proofs.Math.Path.{subst}
-use Rattle.std.proofs.Math.Option.{Option, none, some}
+use Rattle.std.specs.Prelude.{Option, None, Some}
 use mathlib.Core.List.{List, [], ◌∷◌}
 use native.Mathlib.Omega.{arith}
 use Rattle.astar.specs.Cost.{CostAlgebra, same}
@@ -39,8 +39,8 @@ module _ (K : CostAlgebra) (Q : Problem K) (A : Allowance) where
 
   drawn_named : (s : Search K.C Q.Step) (e : Entry K.C) (o : Option (Node K.C Q.Step)) → OnStop Named (drawn K Q A s e o)
   unfolding drawn visit number
-  drawn_named s e none = tt
-  drawn_named s e (some n) =
+  drawn_named s e None = tt
+  drawn_named s e (Some n) =
       by_cond (OnStop Named) (same K e.g n.cost)
       (λ _. by_cond (OnStop Named) (eqb e.state Q.goal) (λ _. tt)
       (λ _. by_cond (OnStop Named) (cut K s.hand e.f) (λ _. omega arith)
@@ -86,19 +86,19 @@ module _ (K : CostAlgebra) (Q : Problem K) (A : Allowance) where
   module _ (priced : Q.Step → K.C) (few : ℕ) (bound : K.C) (held : Option (Found K.C Q.Step)) where
     -- at ending 0 a plan of no steps, whose cost and ceiling are zero
     abbrev Still : Answer K.C Q.Step → Type 0
-    Still r = r.ending ≡ 0 → r.plan ≡ some (record { origin = 0; steps = []; cost = K.𝟘; ceiling = K.𝟘 })
+    Still r = r.ending ≡ 0 → r.plan ≡ Some (record { origin = 0; steps = []; cost = K.𝟘; ceiling = K.𝟘 })
 
     -- the run's own endings are 2 to 5
     past_1 : (o : Option Ending) → 1 < numbered o
     unfolding number
-    past_1 none = omega arith
-    past_1 (some drained) = omega arith
-    past_1 (some cutOff) = omega arith
-    past_1 (some states) = omega arith
-    past_1 (some expansions) = omega arith
+    past_1 None = omega arith
+    past_1 (Some drained) = omega arith
+    past_1 (Some cutOff) = omega arith
+    past_1 (Some states) = omega arith
+    past_1 (Some expansions) = omega arith
 
     -- an answer of ending 0 has that plan (document 01, "Endings:")
-    pub planned_still : (planned K Q priced few bound held A).ending ≡ 0 → (planned K Q priced few bound held A).plan ≡ some (record { origin = 0; steps = []; cost = K.𝟘; ceiling = K.𝟘 })
+    pub planned_still : (planned K Q priced few bound held A).ending ≡ 0 → (planned K Q priced few bound held A).plan ≡ Some (record { origin = 0; steps = []; cost = K.𝟘; ceiling = K.𝟘 })
     unfolding planned searched
     planned_still =
         by_cond Still (eqb Q.start Q.goal) (λ _ _. refl)

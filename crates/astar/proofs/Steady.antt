@@ -2,7 +2,8 @@
 use Rattle.std.proofs.Math.Path.{◌≡◌, refl, sym, ap, subst}
 use Rattle.std.proofs.Common.{ap₂, ◌∙◌, ⊎_elim, suc-le-suc, le_trans, mul-le-mul_left, arith}
 use Rattle.std.specs.Prelude.{true, cond, not, ◌||◌, ℕ, suc, ◌*◌, ◌≤◌, eqb}
-use Rattle.std.proofs.Math.Option.{Option, none, some, some-injective}
+use Rattle.std.specs.Prelude.{Option, None, Some}
+use Rattle.astar.specs.Maybe.{some_injective}
 use mathlib.Core.List.{List, [], ◌∷◌, Memᴰ}
 use Rattle.std.proofs.Math.Dec.{T, eqb→eq}
 use Rattle.astar.specs.Cost.{CostAlgebra, lt}
@@ -28,7 +29,7 @@ module _
     (K : CostAlgebra) (Q : Problem K) (priced : Q.Step → K.C) (few dear : ℕ) (B : Bounded K Q few dear)
     (lists : (v : ℕ) (q : Option Q.Step) (x : Succ K.C Q.Step) → Memᴰ x (Q.after v q) → x.price ≡ priced x.by)
     (bound : K.C) (held : Option (Found K.C Q.Step))
-    (held_at : (p : Found K.C Q.Step) → held ≡ some p → (p.ceiling ≡ bound) × T (K.le p.cost p.ceiling))
+    (held_at : (p : Found K.C Q.Step) → held ≡ Some p → (p.ceiling ≡ bound) × T (K.le p.cost p.ceiling))
   where
     open K use {C, 𝟘, le, ◌⊞◌, room}
     open Q use {Step, start, goal, after}
@@ -41,12 +42,12 @@ module _
     -- ---- until a goal is recorded, the hand is the first
 
     abbrev FirstHand : Search C Step → Type 0
-    FirstHand s = s.hand.last ≡ none → s.hand ≡ (first K Q priced few bound held).hand
+    FirstHand s = s.hand.last ≡ None → s.hand ≡ (first K Q priced few bound held).hand
 
-    goal_first : (g : C) (H H₀ : Hand C) → (H.last ≡ none → H ≡ H₀) → (record_goal K g H).last ≡ none → record_goal K g H ≡ H₀
+    goal_first : (g : C) (H H₀ : Hand C) → (H.last ≡ None → H ≡ H₀) → (record_goal K g H).last ≡ None → record_goal K g H ≡ H₀
     unfolding record_goal
     goal_first g H H₀ old =
-        by_cond (λ (H' : Hand C). H'.last ≡ none → H' ≡ H₀) (not H.have || lt K g H.bound) {x = record { bound = g; have = true; last = some g }} {y = H} (λ _ e. let z : ◌≡◌ {A = ℕ} 0 1 = cc in absurd (omega arith)) (λ _. old)
+        by_cond (λ (H' : Hand C). H'.last ≡ None → H' ≡ H₀) (not H.have || lt K g H.bound) {x = record { bound = g; have = true; last = Some g }} {y = H} (λ _ e. let z : ◌≡◌ {A = ℕ} 0 1 = cc in absurd (omega arith)) (λ _. old)
 
     module _ (A : Allowance) (fits : dear * suc A.expansions ≤ room) where
       turn_first : (s : Search C Step) → FirstHand s → Keeps K Q A FirstHand s
@@ -64,11 +65,11 @@ module _
       -- ---- a plan is in hand exactly if one is found, and the bound is its ceiling
 
       record Held (s : Search C Step) (p : Found C Step) : Type 0 where
-        found : plan_of K Q priced few bound held s ≡ some p
+        found : plan_of K Q priced few bound held s ≡ Some p
         marked : p.ceiling ≡ s.hand.bound
         within : T (le p.cost p.ceiling)
 
-      read_held : (s : Search C Step) (g : C) → s.hand.last ≡ some g → Plan K Q s g → s.hand.bound ≡ g → (p : Found C Step) × Held s p
+      read_held : (s : Search C Step) (g : C) → s.hand.last ≡ Some g → Plan K Q s g → s.hand.bound ≡ g → (p : Found C Step) × Held s p
       unfolding plan_of
       read_held s g e P b =
           let p : Found C Step = record { origin = 3; steps = steps K Q P.route; cost = sum_steps K priced 𝟘 (steps K Q P.route); ceiling = g } in (
@@ -80,7 +81,7 @@ module _
             },
           )
 
-      builder_held : (s : Search C Step) → FirstHand s → s.hand.last ≡ none → (p : Found C Step) → held ≡ some p → Held s p
+      builder_held : (s : Search C Step) → FirstHand s → s.hand.last ≡ None → (p : Found C Step) → held ≡ Some p → Held s p
       unfolding plan_of begin
       builder_held s h e p d =
           record { found = ap (λ (o : Option C). plan_at K Q priced few bound held o s.count s.work.nodes) e ∙ d; marked = (held_at p d).0 ∙ ap (λ (H : Hand C). H.bound) (sym (h e)); within = (held_at p d).1 }
@@ -90,9 +91,9 @@ module _
         good : Good K Q dear A s
         firstly : FirstHand s
 
-      some_given : {A : Type 0} (o : Option A) → T (given o) → (a : A) × (o ≡ some a)
-      some_given none t = absurd t
-      some_given (some a) t = (a, refl)
+      some_given : {A : Type 0} (o : Option A) → T (given o) → (a : A) × (o ≡ Some a)
+      some_given None t = absurd t
+      some_given (Some a) t = (a, refl)
 
       -- a plan in hand is found
       in_hand : (s : Search C Step) → Reached s → T s.hand.have → (p : Found C Step) × Held s p
@@ -100,27 +101,27 @@ module _
       in_hand s r h = by_last s.hand.last refl
         where
           by_last : (o : Option C) → s.hand.last ≡ o → (p : Found C Step) × Held s p
-          by_last none e =
+          by_last None e =
               let k : T (given held) = subst (λ (H : Hand C). T H.have) (r.firstly e) h in
               let d = some_given held k in
               (d.0, builder_held s r.firstly e d.0 d.1)
-          by_last (some g) e = read_held s g e (reads_back K Q few dear B A fits s r.good g e) (r.good.plan g e).bound_is
+          by_last (Some g) e = read_held s g e (reads_back K Q few dear B A fits s r.good g e) (r.good.plan g e).bound_is
 
       -- and what is found is in hand
-      none_held : (s : Search C Step) → Reached s → (p : Found C Step) → plan_of K Q priced few bound held s ≡ some p → T s.hand.have
+      none_held : (s : Search C Step) → Reached s → (p : Found C Step) → plan_of K Q priced few bound held s ≡ Some p → T s.hand.have
       unfolding plan_of begin
       none_held s r p f = by_last s.hand.last refl
         where
           by_last : (o : Option C) → s.hand.last ≡ o → T s.hand.have
-          by_last none e =
-              let d : held ≡ some p = sym (ap (λ (o : Option C). plan_at K Q priced few bound held o s.count s.work.nodes) e) ∙ f in
+          by_last None e =
+              let d : held ≡ Some p = sym (ap (λ (o : Option C). plan_at K Q priced few bound held o s.count s.work.nodes) e) ∙ f in
               subst (λ (H : Hand C). T H.have) (sym (r.firstly e)) (subst (λ (o : Option (Found C Step)). T (given o)) (sym d) tt)
-          by_last (some g) e = (r.good.plan g e).in_hand
+          by_last (Some g) e = (r.good.plan g e).in_hand
 
-      is_held : (s : Search C Step) → Reached s → (p : Found C Step) → plan_of K Q priced few bound held s ≡ some p → Held s p
+      is_held : (s : Search C Step) → Reached s → (p : Found C Step) → plan_of K Q priced few bound held s ≡ Some p → Held s p
       is_held s r p f =
           let k = in_hand s r (none_held s r p f) in
-          subst (Held s) (some-injective k.0 p (sym k.1.found ∙ f)) k.1
+          subst (Held s) (some_injective k.0 p (sym k.1.found ∙ f)) k.1
 
     module _ (A A' : Allowance) (more : A ⊑ A') (fits' : dear * suc A'.expansions ≤ room) where
       fits : dear * suc A.expansions ≤ room
@@ -174,7 +175,7 @@ module _
           (numbered r'.ending)
           (λ h.
           let own : ByItself d.ending = settled_own d.ending (subst (λ (o : Option Ending). Settled (numbered o)) d.ended h) in
-          let e : r.ending ≡ r'.ending = d.ended ∙ ap {B = Option Ending} some (w.same_ending own) ∙ sym d'.ended in
+          let e : r.ending ≡ r'.ending = d.ended ∙ ap {B = Option Ending} Some (w.same_ending own) ∙ sym d'.ended in
           ap₂ answer (w.same_search own) (ap numbered e))
 
       not_searched :
@@ -195,12 +196,12 @@ module _
           pair s₀ (reached A fits s₀ (here refl)) s₀ (reached A' fits' s₀ (here refl)) (reach_no_worse K Q A' (here {s = s₀} refl)) 1 1 (λ _. refl)
 
       abbrev at_goal_lem : Answer C Step
-      at_goal_lem = record { plan = some (record { origin = 0; steps = []; cost = 𝟘; ceiling = 𝟘 }); ending = 0; expansions = 0 }
+      at_goal_lem = record { plan = Some (record { origin = 0; steps = []; cost = 𝟘; ceiling = 𝟘 }); ending = 0; expansions = 0 }
 
       goal_steady : Steady K Step at_goal_lem at_goal_lem
       goal_steady =
-          let w : (p : Found C Step) → at_goal_lem.plan ≡ some p → T (le p.cost p.ceiling) =
-          λ p f. subst (λ (q : Found C Step). T (le q.cost q.ceiling)) (some-injective _ p f) (K.order.reflexive 𝟘)
+          let w : (p : Found C Step) → at_goal_lem.plan ≡ Some p → T (le p.cost p.ceiling) =
+          λ p f. subst (λ (q : Found C Step). T (le q.cost q.ceiling)) (some_injective _ p f) (K.order.reflexive 𝟘)
           in
           record { stays = λ p f. (p, f, K.order.reflexive p.ceiling); within_a = w; within_b = w; settled = λ _. refl }
 

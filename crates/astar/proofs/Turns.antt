@@ -2,7 +2,7 @@
 use Rattle.std.specs.Prelude.{◌≡◌, leb, eqb}
 use Rattle.std.proofs.Math.Path.{refl}
 use Rattle.std.proofs.Common.{subst, eqb→eq}
-use Rattle.std.proofs.Math.Option.{Option, none, some}
+use Rattle.std.specs.Prelude.{Option, None, Some}
 use mathlib.Core.List.{List, [], ◌∷◌}
 use Rattle.std.proofs.Math.Dec.{nleb→lt}
 use Rattle.astar.specs.Cost.{CostAlgebra, same}
@@ -18,8 +18,8 @@ module _ (K : CostAlgebra) (Q : Problem K) where
         find e.state s.work.nodes ≡ o →
         OnGo P (drawn K Q A (without K Q es s) e o)
     unfolding drawn visit
-    of_drawn e es none q f = k.skips e es q
-    of_drawn e es (some n) q f =
+    of_drawn e es None q f = k.skips e es q
+    of_drawn e es (Some n) q f =
         by_cond
         (OnGo P)
         (same K e.g n.cost)

@@ -1,7 +1,7 @@
 -- What holds of the start's entry and is kept by every successor holds of every entry that is drawn.
 use Rattle.std.specs.Prelude.{◌≡◌, refl, Bool, ℕ}
 use Rattle.std.proofs.Common.{subst}
-use Rattle.std.proofs.Math.Option.{Option}
+use Rattle.std.specs.Prelude.{Option}
 use mathlib.Core.List.{List, [], ◌∷◌, Memᴰ}
 use Rattle.astar.specs.Cost.{CostAlgebra}
 use Rattle.astar.specs.Search.{Problem, Succ, Allowance, Search, go, Entry, Work, Hand, find, before, push, cut, better, entry_of, step_of, offer, offers, without, turn, begin}

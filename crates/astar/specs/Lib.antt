@@ -1,3 +1,4 @@
+pub mod Maybe
 -- The bounded A* search over any costs and any problem: definitions, and laws of them. What is proved of every run: proofs/.
 pub mod Cost
 pub mod Order

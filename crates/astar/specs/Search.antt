@@ -1,7 +1,8 @@
 -- The bounded A* search over any costs and any problem. All of it states document 01, section "One turn of the search"; a name in quotes is the
 -- beginning of the sentence there.
 use Rattle.std.specs.Prelude.{Bool, true, cond, not, ◌||◌, List, [], ◌∷◌, ℕ, zero, suc, ◌+◌, ◌*◌, leb, ltb, eqb, length}
-use Rattle.std.proofs.Math.Option.{Option, none, some, bind}
+use Rattle.std.specs.Prelude.{Option, None, Some}
+use Rattle.astar.specs.Maybe.{bind}
 use Rattle.astar.specs.Cost.{CostAlgebra, lt, same, lex}
 
 -- A successor: the state it leads to, the step's price, the step.
@@ -74,20 +75,20 @@ pub record Result (C Step : Type 0) : Type 0 where
 
 -- after a turn from s
 unfoldable pub proceed : {C Step : Type 0} → Search C Step → Turn C Step → (Search C Step → Result C Step) → Result C Step
-proceed s (stop e) k = record { final = s; ending = some e }
+proceed s (stop e) k = record { final = s; ending = Some e }
 proceed s (go t) k = k t
 
 -- the step of a parent
 unfoldable pub step_of : {Step : Type 0} → Option (ℕ × Step) → Option Step
-step_of none = none
-step_of (some r) = some r.1
+step_of None = None
+step_of (Some r) = Some r.1
 
 -- ---- nodes
 
 module _ {C Step : Type 0} where
   unfoldable pub find : ℕ → List (Node C Step) → Option (Node C Step)
-  find v [] = none
-  find v (n ∷ ns) = cond (eqb n.state v) (some n) (find v ns)
+  find v [] = None
+  find v (n ∷ ns) = cond (eqb n.state v) (Some n) (find v ns)
 
   -- in the place of the node of that state, or else at the end
   unfoldable pub store : Node C Step → List (Node C Step) → List (Node C Step)
@@ -95,8 +96,8 @@ module _ {C Step : Type 0} where
   store m (n ∷ ns) = cond (eqb n.state m.state) (m ∷ ns) (n ∷ store m ns)
 
   unfoldable pub parent_in : Option (Node C Step) → Option (ℕ × Step)
-  parent_in none = none
-  parent_in (some n) = n.parent
+  parent_in None = None
+  parent_in (Some n) = n.parent
 
 module _ (K : CostAlgebra) where
   open K use {C, 𝟘, le, ◌⊞◌}
@@ -120,7 +121,7 @@ module _ (K : CostAlgebra) where
 
   -- a goal that was drawn at g becomes the plan in hand, and g the bound, unless a plan in hand is as cheap ("A goal is recorded")
   unfoldable pub record_goal : C → Hand C → Hand C
-  record_goal g H = cond (not H.have || lt K g H.bound) (record { bound = g; have = true; last = some g }) H
+  record_goal g H = cond (not H.have || lt K g H.bound) (record { bound = g; have = true; last = Some g }) H
 
   module _ (Q : Problem K) where
     open Q use {Step, start, goal, est, after}
@@ -129,13 +130,13 @@ module _ (K : CostAlgebra) where
 
     -- the state has no node yet, or a dearer one ("A successor is stored")
     unfoldable pub better : C → Option (Node C Step) → Bool
-    better g none = true
-    better g (some n) = lt K g n.cost
+    better g None = true
+    better g (Some n) = lt K g n.cost
 
     -- a successor costs what its parent costs and its step ("a stored successor's"): the node and the open entry of a successor x of p,
     -- where p's g is g
     abbrev pub node_of : ℕ → C → Succ C Step → Node C Step
-    node_of p g x = record { state = x.to; cost = g ⊞ x.price; parent = some (p, x.by) }
+    node_of p g x = record { state = x.to; cost = g ⊞ x.price; parent = Some (p, x.by) }
 
     abbrev pub entry_of : C → Succ C Step → Entry C
     entry_of g x = record { f = g ⊞ x.price ⊞ est x.to; g = g ⊞ x.price; state = x.to }
@@ -192,8 +193,8 @@ module _ (K : CostAlgebra) where
 
       -- an entry drawn, and its state's node; s is without that entry
       unfoldable pub drawn : Search C Step → Entry C → Option (Node C Step) → Turn C Step
-      drawn s e none = go s
-      drawn s e (some n) =
+      drawn s e None = go s
+      drawn s e (Some n) =
           cond
           -- an entry whose state has become cheaper since is passed over ("An entry whose g")
           (same K e.g n.cost)
@@ -213,15 +214,15 @@ module _ (K : CostAlgebra) where
       -- ---- a run
 
       unfoldable pub run : ℕ → Search C Step → Result C Step
-      run zero s = record { final = s; ending = none }
+      run zero s = record { final = s; ending = None }
       run (suc k) s = proceed s (turn s) (λ t. run k t)
 
     -- the first search: the start at no cost ("The start's g"), with the bound and the plan that the builders gave
     unfoldable pub begin : C → Bool → Search C Step
     begin bound have =
         record {
-          work = record { nodes = record { state = start; cost = 𝟘; parent = none } ∷ []; queue = record { f = est start; g = 𝟘; state = start } ∷ [] };
-          hand = record { bound = bound; have = have; last = none };
+          work = record { nodes = record { state = start; cost = 𝟘; parent = None } ∷ []; queue = record { f = est start; g = 𝟘; state = start } ∷ [] };
+          hand = record { bound = bound; have = have; last = None };
           count = zero;
         }
 
@@ -233,5 +234,5 @@ module _ (K : CostAlgebra) where
 
     -- The steps from the start to v, put before those that are given: parents are followed from v up. At most k states are looked at.
     unfoldable pub read_back : ℕ → List (Node C Step) → ℕ → List Step → Option (List Step)
-    read_back zero ns v steps = none
-    read_back (suc k) ns v steps = cond (eqb v start) (some steps) (bind (parent_in (find v ns)) (λ r. read_back k ns r.0 (r.1 ∷ steps)))
+    read_back zero ns v steps = None
+    read_back (suc k) ns v steps = cond (eqb v start) (Some steps) (bind (parent_in (find v ns)) (λ r. read_back k ns r.0 (r.1 ∷ steps)))

@@ -1,149 +1,86 @@
 -- A read-back and its count, one state after the other.
-use mathlib.Core.Path.{◌≡◌, refl, sym, ap, ◌∙◌}
-use mathlib.Core.Bool.{true, false}
-use mathlib.Core.List.{List, [], ◌∷◌}
-use mathlib.Core.Option.{Option, none, some, bind}
-use Prim.Native.Nat.{ℕ, zero, suc, ◌≤◌, ◌<◌}
-use native.Mathlib.Omega.{arith}
-use lib.Dec.{eqb}
-use lib.ListN.{length, take, drop, set}
-use Rattle.algebra.specs.GasBytes.{gas_bytes}
+use Rattle.std.proofs.Common.{◌≡◌, refl, sym, ◌∙◌, ◌⊎◌, inl, inr, true, false, Option, None, Some, List, ◌∷◌, ℕ, zero, suc, ◌+◌, ◌≤◌, ◌<◌, arith, eqb}
+use Rattle.std.proofs.lemmas.Bool.{cases_Bool}
 use Rattle.astar.specs.Search.{find, parent_in, read_back}
+use Rattle.costs.specs.Laws.{some_injective}
+use Rattle.algebra.specs.GasBytes.{gas_bytes}
 use Rattle.window.specs.declared.PackedState.{PackedState}
 use Rattle.window.specs.State.{whole}
-use Rattle.nodes.proofs.Lemmas.{by_test}
-use Rattle.lists.specs.View.{SearchNode, parent_is, recalled}
+use Rattle.lists.specs.View.{SearchNode}
 use Rattle.offer.specs.Rules.{bare}
-use Rattle.costs.specs.declared.Step.{Step}
-use Rattle.costs.specs.Step.{code_of}
-use Rattle.lists.specs.declared.Node.{Node}
-use Rattle.lists.specs.declared.Parent.TheVariants.{Start, By}
-use Rattle.lists.specs.declared.Known.{Known}
-use Rattle.lists.specs.declared.Known.TheVariants.{Is, New}
 use Rattle.back.specs.Back.{count_back}
 
--- ---- the parent of a state that was recalled
+-- a parent is none, or one
+abbrev pub HasParent : ℕ → List SearchNode → Type 0
+HasParent v ns = (r : ℕ × ℕ) × (parent_in (find v ns) ≡ Some r)
 
-module _ (v : ℕ) (ns : List SearchNode) (kn : Known) (kE : recalled kn ≡ find v ns) where
-  pub parent_missing : kn ≡ New → parent_in (find v ns) ≡ none
-  unfolding parent_in
-  parent_missing e = ap parent_in (sym kE ∙ ap recalled e)
-
-  module _ (m : Node) (is : kn ≡ Is m) where
-    parent_at : parent_in (find v ns) ≡ parent_is m.parent
-    unfolding parent_in
-    parent_at = ap parent_in (sym kE ∙ ap recalled is)
-
-    pub parent_none : m.parent ≡ Start → parent_in (find v ns) ≡ none
-    parent_none e = parent_at ∙ ap parent_is e
-
-    pub parent_some : (up : PackedState) (step : Step) → m.parent ≡ By up step → parent_in (find v ns) ≡ some (whole up, code_of step)
-    parent_some up step e = parent_at ∙ ap parent_is e
+parent_cases : (v : ℕ) (ns : List SearchNode) → (parent_in (find v ns) ≡ None) ⊎ HasParent v ns
+parent_cases v ns = go (parent_in (find v ns))
+  where
+    go : (o : Option (ℕ × ℕ)) → (o ≡ None) ⊎ ((r : ℕ × ℕ) × (o ≡ Some r))
+    go None = inl refl
+    go (Some r) = inr (r, refl)
 
 -- ---- the count
 
 module _ (start : ℕ) (ns : List SearchNode) where
-  pub count_here : (j v c : ℕ) → eqb v start ≡ true → count_back start (suc j) ns v c ≡ some c
-  unfolding count_back
-  count_here j v c e = rw e
-
-  pub count_none : (j v c : ℕ) → eqb v start ≡ false → parent_in (find v ns) ≡ none → count_back start (suc j) ns v c ≡ none
-  unfolding count_back bind
-  count_none j v c e f = rw (e, f)
-
-  pub count_on : (j v c p b : ℕ) → eqb v start ≡ false → parent_in (find v ns) ≡ some (p, b) → count_back start (suc j) ns v c ≡ count_back start j ns p (suc c)
-  unfolding count_back bind
-  count_on j v c p b e f = rw (e, f)
-
-  bind_none : (o : Option (ℕ × ℕ)) → bind {B = ℕ} o (λ r. none) ≡ none
-  unfolding bind
-  bind_none none = refl
-  bind_none (some r) = refl
-
-  pub count_last : (v c : ℕ) → eqb v start ≡ false → count_back start 1 ns v c ≡ none
-  unfolding count_back
-  count_last v c e = rw e (bind_none (parent_in (find v ns)))
-
-  some_eq : {a b : ℕ} → ◌≡◌ {A = Option ℕ} (some a) (some b) → a ≡ b
-  some_eq e = cc
-
-  none_some : {b : ℕ} → ◌≡◌ {A = Option ℕ} none (some b) → ⊥
-  none_some e = let z : ◌≡◌ {A = ℕ} 0 1 = cc in omega arith
-
-  -- a count only grows
-  grows_parent : (j v c k : ℕ) → count_back start (suc j) ns v c ≡ some k → eqb v start ≡ false → ((p : ℕ) → count_back start j ns p (suc c) ≡ some k → suc c ≤ k) → (o : Option (ℕ × ℕ)) → parent_in (find v ns) ≡ o → c ≤ k
-  grows_parent j v c k e f up none p = absurd (none_some (sym (count_none j v c f p) ∙ e))
-  grows_parent j v c k e f up (some r) p = let h : suc c ≤ k = up r.0 (sym (count_on j v c r.0 r.1 f p) ∙ e) in omega arith
-
-  count_zero : (v c : ℕ) → count_back start 0 ns v c ≡ none
+  pub count_zero : (v c : ℕ) → count_back start 0 ns v c ≡ None
   unfolding count_back
   count_zero v c = refl
 
-  count_grows : (j v c k : ℕ) → count_back start j ns v c ≡ some k → c ≤ k
-  count_grows zero v c k e = absurd (none_some (sym (count_zero v c) ∙ e))
-  count_grows (suc j) v c k e =
-      by_test (eqb v start)
-      (λ t. let q : c ≡ k = some_eq (sym (count_here j v c t) ∙ e) in omega arith)
-      (λ f. grows_parent j v c k e f (λ p d. count_grows j p (suc c) k d) (parent_in (find v ns)) refl)
+  pub count_here : (j v c : ℕ) → eqb v start ≡ true → count_back start (suc j) ns v c ≡ Some c
+  unfolding count_back
+  count_here j v c e = rw e
 
-  -- a count that is not at its end goes on
-  pub count_left : (j v c k p b : ℕ) → eqb v start ≡ false → parent_in (find v ns) ≡ some (p, b) → count_back start (suc j) ns v c ≡ some k → (suc c ≤ k) × (count_back start j ns p (suc c) ≡ some k)
-  count_left j v c k p b f q e =
-      let n : count_back start j ns p (suc c) ≡ some k = sym (count_on j v c p b f q) ∙ e in
-      (count_grows j p (suc c) k n, n)
+  pub count_none : (j v c : ℕ) → eqb v start ≡ false → parent_in (find v ns) ≡ None → count_back start (suc j) ns v c ≡ None
+  unfolding count_back
+  count_none j v c e f = rw (e, f)
 
-  pub count_stuck : (j v c k : ℕ) → eqb v start ≡ false → parent_in (find v ns) ≡ none → count_back start (suc j) ns v c ≡ some k → ⊥
-  count_stuck j v c k f q e = none_some (sym (count_none j v c f q) ∙ e)
+  pub count_on : (j v c p b : ℕ) → eqb v start ≡ false → parent_in (find v ns) ≡ Some (p, b) → count_back start (suc j) ns v c ≡ count_back start j ns p (suc c)
+  unfolding count_back
+  count_on j v c p b e f = rw (e, f)
 
-  pub count_ended : (j v c k : ℕ) → eqb v start ≡ true → count_back start (suc j) ns v c ≡ some k → c ≡ k
-  count_ended j v c k t e = some_eq (sym (count_here j v c t) ∙ e)
+  -- a count that is made goes on from a state that is not the start
+  pub count_next : (j v c k : ℕ) → eqb v start ≡ false → count_back start (suc j) ns v c ≡ Some k → (h : HasParent v ns) × (count_back start j ns h.0.0 (suc c) ≡ Some k)
+  count_next j v c k f e =
+      elim (parent_cases v ns) [
+        | inl p ↦ absurd (cc (count_none j v c f p))
+        | inr h ↦ (h, sym (count_on j v c h.0.0 h.0.1 f h.1) ∙ e)
+      ]
+
+  -- a count onto c, of at most j states
+  pub count_within : (j v c k : ℕ) → count_back start j ns v c ≡ Some k → (c ≤ k) × (k < c + j)
+  count_within zero v c k e = absurd (cc (count_zero v c))
+  count_within (suc j) v c k e =
+      elim (cases_Bool (eqb v start)) [
+        | inl t ↦ let q : c ≡ k = some_injective c k (sym (count_here j v c t) ∙ e) in (omega arith, omega arith)
+        | inr f ↦ let n = count_next j v c k f e in let h = count_within j n.0.0.0 (suc c) k n.1 in (omega arith, omega arith)
+      ]
 
 -- ---- the steps
 
 module _ (from to : PackedState) (ns : List SearchNode) where
-  pub read_here : (j v : ℕ) (bs : List ℕ) → eqb v (whole from) ≡ true → read_back gas_bytes (bare (whole from) (whole to)) (suc j) ns v bs ≡ some bs
+  pub read_here : (j v : ℕ) (bs : List ℕ) → eqb v (whole from) ≡ true → read_back gas_bytes (bare (whole from) (whole to)) (suc j) ns v bs ≡ Some bs
   unfolding read_back
   read_here j v bs e = rw e
 
-  pub read_on : (j v p b : ℕ) (bs : List ℕ) → eqb v (whole from) ≡ false → parent_in (find v ns) ≡ some (p, b) → read_back gas_bytes (bare (whole from) (whole to)) (suc j) ns v bs ≡ read_back gas_bytes (bare (whole from) (whole to)) j ns p (b ∷ bs)
-  unfolding read_back bind
-  read_on j v p b bs e f = rw (e, f)
-
-  read_none : (j v : ℕ) (bs : List ℕ) → eqb v (whole from) ≡ false → parent_in (find v ns) ≡ none → read_back gas_bytes (bare (whole from) (whole to)) (suc j) ns v bs ≡ none
-  unfolding read_back bind
+  read_none : (j v : ℕ) (bs : List ℕ) → eqb v (whole from) ≡ false → parent_in (find v ns) ≡ None → read_back gas_bytes (bare (whole from) (whole to)) (suc j) ns v bs ≡ None
+  unfolding read_back
   read_none j v bs e f = rw (e, f)
 
-  read_zero : (v : ℕ) (bs : List ℕ) → read_back gas_bytes (bare (whole from) (whole to)) 0 ns v bs ≡ none
+  pub read_on : (j v p b : ℕ) (bs : List ℕ) → eqb v (whole from) ≡ false → parent_in (find v ns) ≡ Some (p, b) → read_back gas_bytes (bare (whole from) (whole to)) (suc j) ns v bs ≡ read_back gas_bytes (bare (whole from) (whole to)) j ns p (b ∷ bs)
   unfolding read_back
-  read_zero v bs = refl
-
-  no_parent : (j v c : ℕ) (bs : List ℕ) → count_back (whole from) (suc j) ns v c ≡ none → eqb v (whole from) ≡ false → ((p : ℕ) (ds : List ℕ) → count_back (whole from) j ns p (suc c) ≡ none → read_back gas_bytes (bare (whole from) (whole to)) j ns p ds ≡ none) → (o : Option (ℕ × ℕ)) → parent_in (find v ns) ≡ o → read_back gas_bytes (bare (whole from) (whole to)) (suc j) ns v bs ≡ none
-  no_parent j v c bs e f up none p = read_none j v bs f p
-  no_parent j v c bs e f up (some r) p = read_on j v r.0 r.1 bs f p ∙ up r.0 (r.1 ∷ bs) (sym (count_on (whole from) ns j v c r.0 r.1 f p) ∙ e)
+  read_on j v p b bs e f = rw (e, f)
 
   -- where there is no count there is no plan
-  pub no_plan : (j v c : ℕ) (bs : List ℕ) → count_back (whole from) j ns v c ≡ none → read_back gas_bytes (bare (whole from) (whole to)) j ns v bs ≡ none
-  no_plan zero v c bs e = read_zero v bs
+  pub no_plan : (j v c : ℕ) (bs : List ℕ) → count_back (whole from) j ns v c ≡ None → read_back gas_bytes (bare (whole from) (whole to)) j ns v bs ≡ None
+  unfolding read_back
+  no_plan zero v c bs e = refl
   no_plan (suc j) v c bs e =
-      by_test (eqb v (whole from))
-      (λ t. absurd (none_some (whole from) ns (sym e ∙ count_here (whole from) ns j v c t)))
-      (λ f. no_parent j v c bs e f (λ p ds d. no_plan j p (suc c) ds d) (parent_in (find v ns)) refl)
-
--- ---- a list written from the end
-
-pub back_set : (xs : List ℕ) (j k b : ℕ) → j < k → k ≤ length xs → drop j (take k (set xs j b)) ≡ b ∷ drop (suc j) (take k xs)
-back_set [] j k b l r = absurd (omega arith)
-back_set (x ∷ xs) j zero b l r = absurd (omega arith)
-back_set (x ∷ xs) zero (suc k) b l r = refl
-back_set (x ∷ xs) (suc j) (suc k) b l r = back_set xs j k b (omega arith) (omega arith)
-
-pub rest_set : (xs : List ℕ) (j k b : ℕ) → j < k → drop k (set xs j b) ≡ drop k xs
-rest_set [] j k b l = refl
-rest_set (x ∷ xs) j zero b l = absurd (omega arith)
-rest_set (x ∷ xs) zero (suc k) b l = refl
-rest_set (x ∷ xs) (suc j) (suc k) b l = rest_set xs j k b (omega arith)
-
-pub none_taken : (xs : List ℕ) (k : ℕ) → drop k (take k xs) ≡ []
-none_taken xs zero = refl
-none_taken [] (suc k) = refl
-none_taken (x ∷ xs) (suc k) = none_taken xs k
+      elim (cases_Bool (eqb v (whole from))) [
+        | inl t ↦ absurd (cc (count_here (whole from) ns j v c t))
+        | inr f ↦ elim (parent_cases v ns) [
+          | inl p ↦ read_none j v bs f p
+          | inr h ↦ read_on j v h.0.0 h.0.1 bs f h.1 ∙ no_plan j h.0.0 (suc c) (h.0.1 ∷ bs) (sym (count_on (whole from) ns j v c h.0.0 h.0.1 f h.1) ∙ e)
+        ]
+      ]

@@ -1,177 +1,114 @@
 -- The two passes.
-use mathlib.Core.Path.{◌≡◌, refl, sym, ap, ap₂, ◌∙◌}
-use mathlib.Core.Bool.{Bool, true, false}
-use mathlib.Core.List.{List, [], ◌∷◌}
-use mathlib.Core.Option.{Option, none, some}
-use Prim.Native.Nat.{ℕ, suc, ◌+◌, ◌-◌, ◌≤◌, ◌<◌}
-use native.Mathlib.Omega.{arith}
-use lib.Dec.{eqb}
-use lib.ListN.{length, take, drop, set, length-set}
+use Rattle.std.proofs.Common.{◌≡◌, refl, sym, ap, ◌∙◌, inl, inr, Bool, true, false, Option, None, Some, List, ◌∷◌, ℕ, suc, ◌+◌, ◌-◌, ◌≤◌, ◌<◌, arith, eqb, length, drop, set, IsSome}
+use Rattle.std.proofs.lemmas.Bool.{cases_Bool, false_from_ne_true}
+use Rattle.std.proofs.lemmas.Grind.{common_steps}
+use Rattle.std.proofs.lemmas.List.{length-set, drop_all}
+use Rattle.costs.specs.declared.Step.{Step}
+use Rattle.costs.specs.Laws.{some_injective}
+use Rattle.costs.specs.Step.{code_of}
 use Rattle.algebra.specs.GasBytes.{gas_bytes}
-use Rattle.astar.specs.Search.{find, read_back}
+use Rattle.astar.specs.Search.{find, parent_in, read_back}
 use Rattle.window.specs.declared.PackedState.{PackedState}
 use Rattle.window.specs.State.{whole}
+use Rattle.lists.specs.View.{SearchNode, parent_is}
 use Rattle.offer.specs.Rules.{bare}
-use Rattle.lists.specs.View.{SearchNode, recalled}
-use Rattle.costs.specs.declared.Step.{Step}
-use Rattle.costs.specs.Step.{code_of}
-use Rattle.lists.specs.declared.Node.{Node}
-use Rattle.lists.specs.declared.Parent.TheVariants.{Start, By}
-use Rattle.lists.specs.declared.Known.{Known}
-use Rattle.lists.specs.declared.Known.TheVariants.{Is, New}
-use Rattle.back.specs.declared.Back.{Back}
-use Rattle.back.specs.declared.Back.TheVariants.{Steps, Lost}
-use Rattle.back.specs.Back.{count_back, steps_of, plan, Counted, Written, ReadBack}
-use Rattle.back.proofs.Laws.{parent_missing, parent_none, parent_some, count_here, count_none, count_on, count_last, count_left, count_stuck, count_ended, read_here, read_on, no_plan, back_set, rest_set, none_taken}
-
-lost_few : {most : ℕ} (k : ℕ) → ◌≡◌ {A = Back} Lost (Steps k) → k ≤ most
-lost_few k e = let z : ◌≡◌ {A = ℕ} 0 1 = cc in absurd (omega arith)
-
-steps_few : {most i : ℕ} → i ≤ most → (k : ℕ) → ◌≡◌ {A = Back} (Steps i) (Steps k) → k ≤ most
-steps_few {most} {i} h k e = let q : i ≡ k = cc in omega arith
+use Rattle.back.specs.Back.{count_back, plan, HasSteps, Counted}
+use Rattle.back.proofs.Laws.{count_zero, count_here, count_none, count_on, count_next, count_within, read_here, read_on}
 
 -- ---- counting
 
-pub record Counting (from to : PackedState) (most : ℕ) (ns : List SearchNode) (at : PackedState) (left k : ℕ) : Type 0 where
-  pub same : count_back (whole from) (suc left) ns (whole at) k ≡ count_back (whole from) (suc most) ns (whole to) 0
-  pub sum : k + left ≡ most
+-- the count from at on is the count from the goal on
+pub record Counting (from to : PackedState) (most : ℕ) (ns : List SearchNode) (at : PackedState) (k : ℕ) : Type 0 where
+  pub same : count_back (whole from) (suc most - k) ns (whole at) k ≡ count_back (whole from) (suc most) ns (whole to) 0
 
-pub counting_first : (from to : PackedState) (most : ℕ) (ns : List SearchNode) → Counting from to most ns to most 0
-counting_first from to most ns = record { same = refl; sum = omega arith }
+pub counting_first : (from to : PackedState) (most : ℕ) (ns : List SearchNode) → Counting from to most ns to 0
+counting_first from to most ns = let e : suc most - 0 ≡ suc most = omega arith in record { same = rw e }
 
-module _ (from to : PackedState) (most : ℕ) (ns : List SearchNode) (at : PackedState) (left k : ℕ) (C : Counting from to most ns at left k) (t : Bool) (tE : t ≡ eqb (whole at) (whole from)) where
-  lost : count_back (whole from) (suc left) ns (whole at) k ≡ none → Counted from to most ns Lost
-  lost e = record { count_is = sym e ∙ C.same; few = lost_few }
+module _ (from to : PackedState) (most : ℕ) (ns : List SearchNode) (at : PackedState) (k : ℕ) (C : Counting from to most ns at k) where
+  pub counted_out : suc most ≤ k → Counted from to most ns None
+  counted_out l = let z : suc most - k ≡ 0 = omega arith in record { count_is = sym (count_zero (whole from) ns (whole at) k) ∙ rw z at C.same; few = tt }
 
-  pub counted_here : t ≡ true → Counted from to most ns (Steps k)
-  counted_here y = record { count_is = sym (count_here (whole from) ns left (whole at) k (sym tE ∙ y)) ∙ C.same; few = steps_few (omega (arith, C.sum)) }
+  module _ (l : k ≤ most) (t : Bool) (tE : t ≡ eqb (whole at) (whole from)) where
+    on : count_back (whole from) (suc (most - k)) ns (whole at) k ≡ count_back (whole from) (suc most) ns (whole to) 0
+    on = let e : suc most - k ≡ suc (most - k) = omega arith in rw e at C.same
 
-  module _ (n : t ≡ false) where
-    pub counted_out : left ≡ 0 → Counted from to most ns Lost
-    counted_out z = lost (ap (λ (j : ℕ). count_back (whole from) (suc j) ns (whole at) k) z ∙ count_last (whole from) ns (whole at) k (sym tE ∙ n))
+    pub counted_here : t ≡ true → Counted from to most ns (Some k)
+    counted_here y = record { count_is = sym (count_here (whole from) ns (most - k) (whole at) k (sym tE ∙ y)) ∙ on; few = l }
 
-    module _ (kn : Known) (kE : recalled kn ≡ find (whole at) ns) where
-      pub counted_missing : kn ≡ New → Counted from to most ns Lost
-      counted_missing e = lost (count_none (whole from) ns left (whole at) k (sym tE ∙ n) (parent_missing (whole at) ns kn kE e))
+    module _ (f : t ≡ false) where
+      pub counted_missing : None ≡ parent_in (find (whole at) ns) → Counted from to most ns None
+      counted_missing e = record { count_is = sym (count_none (whole from) ns (most - k) (whole at) k (sym tE ∙ f) (sym e)) ∙ on; few = tt }
 
-      module _ (m : Node) (is : kn ≡ Is m) where
-        pub counted_none : m.parent ≡ Start → Counted from to most ns Lost
-        counted_none l = lost (count_none (whole from) ns left (whole at) k (sym tE ∙ n) (parent_none (whole at) ns kn kE m is l))
-
-        pub counted_on : (up : PackedState) (step : Step) → m.parent ≡ By up step → (left ≡ 0 → ⊥) → Counting from to most ns up (left - 1) (k + 1)
-        counted_on up step l nz =
-            let e : left ≡ suc (left - 1) = omega arith in
-            let k' : suc k ≡ k + 1 = omega arith in
-            record {
-              same =
-                  sym (ap₂ (λ (i j : ℕ). count_back (whole from) i ns (whole up) j) e k')
-                  ∙ sym (count_on (whole from) ns left (whole at) k (whole up) (code_of step) (sym tE ∙ n) (parent_some (whole at) ns kn kE m is up step l))
-                  ∙ C.same;
-              sum = omega (arith, C.sum);
-            }
+      pub counting_on : (up : PackedState) (b : ℕ) → Some (whole up, b) ≡ parent_in (find (whole at) ns) → Counting from to most ns up (k + 1)
+      counting_on up b e =
+          let s : suc most - (k + 1) ≡ most - k = omega arith in
+          let t : k + 1 ≡ suc k = omega arith in
+          record { same = rw (s, t) (sym (count_on (whole from) ns (most - k) (whole at) k (whole up) b (sym tE ∙ f) (sym e)) ∙ on) }
 
 -- ---- writing
 
-pub record Writing (from to : PackedState) (most : ℕ) (ns : List SearchNode) (k : ℕ) (xs ys : List ℕ) (at : PackedState) (i : ℕ) : Type 0 where
-  pub count_left : count_back (whole from) (suc most - k + i) ns (whole at) (k - i) ≡ some k
-  pub read_left : read_back gas_bytes (bare (whole from) (whole to)) (suc most - k + i) ns (whole at) (drop i (take k ys)) ≡ plan from to most ns
-  pub rest : drop k ys ≡ drop k xs
+-- i steps of k are not yet written, and at is where they lead
+pub record Writing (from to : PackedState) (most : ℕ) (ns : List SearchNode) (k : ℕ) (ys : List ℕ) (at : PackedState) (i : ℕ) : Type 0 where
+  pub count_left : count_back (whole from) (suc most - k + i) ns (whole at) (k - i) ≡ Some k
+  pub read_left : read_back gas_bytes (bare (whole from) (whole to)) (suc most - k + i) ns (whole at) (drop i ys) ≡ plan from to most ns
   pub order : i ≤ k
   pub few : k ≤ most
-  pub fits : k ≤ length ys
-  pub long : length ys ≡ length xs
+  pub long : length ys ≡ k
 
-pub writing_first : (from to : PackedState) (most : ℕ) (ns : List SearchNode) (k : ℕ) (xs : List ℕ) → count_back (whole from) (suc most) ns (whole to) 0 ≡ some k → k ≤ most → k ≤ length xs → Writing from to most ns k xs xs to k
-writing_first from to most ns k xs e l f =
-    let a : suc most - k + k ≡ suc most = omega arith in
-    let b : k - k ≡ 0 = omega arith in
-    record {
-      count_left = ap₂ (λ (i j : ℕ). count_back (whole from) i ns (whole to) j) a b ∙ e;
-      read_left = ap₂ (λ (i : ℕ) (l : List ℕ). read_back gas_bytes (bare (whole from) (whole to)) i ns (whole to) l) a (none_taken xs k);
-      rest = refl;
-      order = omega arith;
-      few = l;
-      fits = f;
-      long = refl;
-    }
+pub writing_first : (from to : PackedState) (most : ℕ) (ns : List SearchNode) (ys : List ℕ) → HasSteps from to most ns (length ys) → Writing from to most ns (length ys) ys to (length ys)
+writing_first from to most ns ys e =
+    let few = count_within (whole from) ns (suc most) (whole to) 0 (length ys) e in
+    let a : suc most - length ys + length ys ≡ suc most = omega arith in
+    let b : length ys - length ys ≡ 0 = omega arith in
+    record { count_left = rw (a, b) e; read_left = rw (a, drop_all (length ys) ys (omega arith)); order = omega arith; few = omega arith; long = refl }
 
-module _ (from to : PackedState) (most : ℕ) (ns : List SearchNode) (k : ℕ) (xs ys : List ℕ) (at : PackedState) (i : ℕ) (W : Writing from to most ns k xs ys at i) (t : Bool) (tE : t ≡ eqb (whole at) (whole from)) where
+module _ (from to : PackedState) (most : ℕ) (ns : List SearchNode) (k : ℕ) (ys : List ℕ) (at : PackedState) (i : ℕ) (W : Writing from to most ns k ys at i) where
   abbrev j : ℕ
   j = most - k + i
 
   fuel : suc most - k + i ≡ suc j
-  fuel = let l : k ≤ most = W.few in omega arith
+  fuel = omega (arith, W.few)
 
-  counted : count_back (whole from) (suc j) ns (whole at) (k - i) ≡ some k
-  counted = ap (λ (f : ℕ). count_back (whole from) f ns (whole at) (k - i)) (sym fuel) ∙ W.count_left
+  counted : count_back (whole from) (suc j) ns (whole at) (k - i) ≡ Some k
+  counted = rw fuel at W.count_left
 
-  read : read_back gas_bytes (bare (whole from) (whole to)) (suc j) ns (whole at) (drop i (take k ys)) ≡ plan from to most ns
-  read = ap (λ (f : ℕ). read_back gas_bytes (bare (whole from) (whole to)) f ns (whole at) (drop i (take k ys))) (sym fuel) ∙ W.read_left
+  read : read_back gas_bytes (bare (whole from) (whole to)) (suc j) ns (whole at) (drop i ys) ≡ plan from to most ns
+  read = rw fuel at W.read_left
 
-  pub written_all : t ≡ true → Written from to most ns k xs ys
-  written_all y =
-      let e : k - i ≡ k = count_ended (whole from) ns j (whole at) (k - i) k (sym tE ∙ y) counted in
-      let z : i ≡ 0 = omega (arith, W.order) in
+  -- where a step is left, the state is not the start
+  not_there : 0 < i → eqb (whole at) (whole from) ≡ false
+  not_there p =
+      false_from_ne_true (eqb (whole at) (whole from))
+      (λ t. let e : k - i ≡ k = some_injective (k - i) k (sym (count_here (whole from) ns j (whole at) (k - i) t) ∙ counted) in omega (arith, W.order))
+
+  -- and has a parent
+  pub never_missing : 0 < i → (r : Option (PackedState × Step)) → parent_is r ≡ parent_in (find (whole at) ns) → IsSome r
+  never_missing p None e = let n = count_next (whole from) ns j (whole at) (k - i) k (not_there p) counted in absurd (cc (n.0.1))
+  never_missing p (Some r) e = refl
+
+  -- one step more
+  pub written_on : 0 < i → (up : PackedState) (step : Step) (b : ℕ) (r : Option (PackedState × Step)) → parent_is r ≡ parent_in (find (whole at) ns) → r ≡ Some (up, step) → b ≡ code_of step → Writing from to most ns k (set ys (i - 1) b) up (i - 1)
+  written_on p up step b r e is be =
+      let q : parent_in (find (whole at) ns) ≡ Some (whole up, b) = sym e ∙ ap parent_is is ∙ rw be in
+      let f : suc most - k + (i - 1) ≡ j = omega (arith, W.few) in
+      let c : k - (i - 1) ≡ suc (k - i) = omega (arith, W.order) in
+      let s : drop (i - 1) (set ys (i - 1) b) ≡ b ∷ drop i ys = grind (arith, common_steps, W.order, W.long) in
       record {
-        steps_are = sym read ∙ read_here from to ns j (whole at) (drop i (take k ys)) (sym tE ∙ y) ∙ ap {B = Option (List ℕ)} (λ (x : ℕ). some (drop x (take k ys))) z;
-        rest = W.rest;
-        fits = W.fits;
+        count_left = rw (f, c) (sym (count_on (whole from) ns j (whole at) (k - i) (whole up) b (not_there p) q) ∙ counted);
+        read_left = rw (f, s) (sym (read_on from to ns j (whole at) (whole up) b (drop i ys) (not_there p) q) ∙ read);
+        order = omega (arith, W.order);
+        few = W.few;
+        long = length-set ys (i - 1) b ∙ W.long;
       }
 
-  module _ (n : t ≡ false) (kn : Known) (kE : recalled kn ≡ find (whole at) ns) where
-    pub never_missing : kn ≡ New → Written from to most ns k xs ys
-    never_missing e = absurd (count_stuck (whole from) ns j (whole at) (k - i) k (sym tE ∙ n) (parent_missing (whole at) ns kn kE e) counted)
-
-    module _ (m : Node) (is : kn ≡ Is m) where
-      pub never_none : m.parent ≡ Start → Written from to most ns k xs ys
-      never_none l = absurd (count_stuck (whole from) ns j (whole at) (k - i) k (sym tE ∙ n) (parent_none (whole at) ns kn kE m is l) counted)
-
-      module _ (up : PackedState) (step : Step) (l : m.parent ≡ By up step) where
-        on : (suc (k - i) ≤ k) × (count_back (whole from) j ns (whole up) (suc (k - i)) ≡ some k)
-        on = count_left (whole from) ns j (whole at) (k - i) k (whole up) (code_of step) (sym tE ∙ n) (parent_some (whole at) ns kn kE m is up step l) counted
-
-        pub some_left : 0 < i
-        some_left = omega (arith, on.0, W.order)
-
-        pub fewer : i - 1 < i
-        fewer = omega (arith, some_left)
-
-        pub place_left : i - 1 < length ys
-        place_left = omega (arith, some_left, W.order, W.fits)
-
-        pub written_on : (b : ℕ) → b ≡ code_of step → Writing from to most ns k xs (set ys (i - 1) b) up (i - 1)
-        written_on b be =
-            let p : 0 < i = some_left in
-            let o : i ≤ k = W.order in
-            let few : k ≤ most = W.few in
-            let h : k ≤ length ys = W.fits in
-            let f : suc most - k + (i - 1) ≡ j = omega arith in
-            let c : k - (i - 1) ≡ suc (k - i) = omega arith in
-            let u : suc (i - 1) ≡ i = omega arith in
-            let s : drop (i - 1) (take k (set ys (i - 1) b)) ≡ code_of step ∷ drop i (take k ys) = back_set ys (i - 1) k b (omega arith) h ∙ ap₂ (λ (x y : ℕ). x ∷ drop y (take k ys)) be u in
-            record {
-              count_left = ap₂ (λ (x y : ℕ). count_back (whole from) x ns (whole up) y) f c ∙ on.1;
-              read_left =
-                  ap₂ (λ (x : ℕ) (l : List ℕ). read_back gas_bytes (bare (whole from) (whole to)) x ns (whole up) l) f s
-                  ∙ sym (read_on from to ns j (whole at) (whole up) (code_of step) (drop i (take k ys)) (sym tE ∙ n) (parent_some (whole at) ns kn kE m is up step l))
-                  ∙ read;
-              rest = rest_set ys (i - 1) k b (omega arith) ∙ W.rest;
-              order = omega arith;
-              few = few;
-              fits = rw (length-set ys (i - 1) b) h;
-              long = length-set ys (i - 1) b ∙ W.long;
-            }
-
--- ---- both
-
-pub read_lost : (from to : PackedState) (most : ℕ) (ns : List SearchNode) (xs : List ℕ) (r : Back) → Counted from to most ns r → r ≡ Lost → ReadBack from to most ns xs xs Lost
-read_lost from to most ns xs r C e = (no_plan from to ns (suc most) (whole to) 0 [] (sym C.count_is ∙ ap steps_of e), refl)
-
-pub count_known : (from to : PackedState) (most : ℕ) (ns : List SearchNode) (k : ℕ) (r : Back) → Counted from to most ns r → r ≡ Steps k → count_back (whole from) (suc most) ns (whole to) 0 ≡ some k
-count_known from to most ns k r C e = sym C.count_is ∙ ap steps_of e
-
-pub count_few : (from to : PackedState) (most : ℕ) (ns : List SearchNode) (k : ℕ) (r : Back) → Counted from to most ns r → r ≡ Steps k → k ≤ most
-count_few from to most ns k r C e = C.few k e
-
-pub count_fits : (from to : PackedState) (most : ℕ) (ns : List SearchNode) (k : ℕ) (xs : List ℕ) (r : Back) → Counted from to most ns r → r ≡ Steps k → most ≤ length xs → k ≤ length xs
-count_fits from to most ns k xs r C e l = omega (arith, C.few k e)
+  -- no step left
+  pub written_all : i ≤ 0 → plan from to most ns ≡ Some ys
+  written_all l =
+      let z : i ≡ 0 = omega arith in
+      elim (cases_Bool (eqb (whole at) (whole from))) [
+        | inl t ↦ sym read ∙ read_here from to ns j (whole at) (drop i ys) t ∙ rw z
+        | inr f ↦
+            let n = count_next (whole from) ns j (whole at) (k - i) k f counted in
+            let w = count_within (whole from) ns j n.0.0.0 (suc (k - i)) k n.1 in
+            absurd (omega arith)
+      ]

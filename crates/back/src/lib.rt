@@ -1,19 +1,23 @@
 // Reads the plan of the goal back from the node list into a lent list of step codes: counts the steps, then writes them from the end.
 #![tactic(auto)]
 
-ghost use Rattle.std.specs.Prelude.{◌≡◌, ℕ, suc, ◌+◌, ◌-◌, ◌*◌, ◌<◌, ◌≤◌, length};
-ghost use Rattle.std.proofs.Math.Option.{some};
+ghost use Rattle.std.specs.Prelude.{◌≡◌, ℕ, ◌≤◌, Some, length};
+ghost use Rattle.astar.specs.Search.{find as found, parent_in};
 ghost use Rattle.window.specs.State.{whole};
-ghost use Rattle.lists.specs.View.{nodes_of, Kept};
-ghost use Rattle.back.specs.Back.{count_back, Counted, Written, ReadBack};
+ghost use Rattle.window.specs.declared.PackedState.{PackedState};
+ghost use Rattle.lists.specs.View.{parent_is, nodes_of, Kept};
+ghost use Rattle.back.specs.Back.{HasSteps, plan, Counted, ReadBack};
 
-use lists::{Known, Parent};
+use costs::Step;
 use window::PackedState;
 
-#[derive(Clone, Copy)]
-pub enum Back {
-    Steps(usize),
-    Lost,
+// How the state was reached: none of the start, and of a state that is not known.
+#[tactic(auto, unfolding(astar::specs::Search::parent_in))]
+fn parent(nodes: &[u64], heads: &[u64], n: usize, state: PackedState) -> Option<(PackedState, Step)>
+    requires { Kept nodes.now heads.now n }
+    ensures { parent_is result ≡ parent_in (found (whole state) (nodes_of nodes.now n)) }
+{
+    lists::recall(nodes, heads, n, state)?.parent
 }
 
 // How many steps the plan has, if it has at most `most`.
@@ -24,65 +28,32 @@ pub fn count_steps(
     start: PackedState,
     goal: PackedState,
     most: usize,
-) -> Back
+) -> Option<usize>
     requires { Kept nodes.now heads.now n }
     ensures { Counted start goal most (nodes_of nodes.now n) result }
 {
     let mut at = goal;
-    let mut left = most;
-    let mut k: usize = 0;
-    loop {
+    for k in 0..=most {
         if at.same(start) {
-            return Back::Steps(k);
+            return Some(k);
         }
-        if left == 0 {
-            return Back::Lost;
-        }
-        let Known::Is(node) = lists::recall(nodes, heads, n, at) else {
-            return Back::Lost;
-        };
-        let parent = node.parent;
-        let Parent::By(up, _) = parent else {
-            return Back::Lost;
-        };
+        let (up, _) = parent(nodes, heads, n, at)?;
         at = up;
-        left -= 1;
-        k += 1;
     }
+    None
 }
 
-// Writes the k steps of the plan, from the last to the first.
-pub fn write_steps(
-    nodes: &[u64],
-    heads: &[u64],
-    steps: &mut [u16],
-    n: usize,
-    start: PackedState,
-    goal: PackedState,
-    most: usize,
-    k: usize,
-)
+// Writes the steps of the plan over a list of just so many, from the last to the first.
+fn write_steps(nodes: &[u64], heads: &[u64], n: usize, goal: PackedState, steps: &mut [u16])
     requires kept { Kept nodes.now heads.now n }
-    requires goal_value { count_back (whole start) (suc most) (nodes_of nodes.now n) (whole goal) 0 ≡ some k }
-    requires k_le_most { k ≤ most }
-    requires k_in_bounds { k ≤ length steps.old }
-    ensures { Written start goal most (nodes_of nodes.now n) k steps.old steps.new }
+    requires counted { (start : PackedState) × ((most : ℕ) × HasSteps start goal most (nodes_of nodes.now n) (length steps.old)) }
+    ensures { (start : PackedState) → (most : ℕ) → HasSteps start goal most (nodes_of nodes.now n) (length steps.old)
+        → plan start goal most (nodes_of nodes.now n) ≡ Some steps.new }
 {
     let mut at = goal;
-    let mut i = k;
-    loop {
-        if at.same(start) {
-            return;
-        }
-        let Known::Is(node) = lists::recall(nodes, heads, n, at) else {
-            return;
-        };
-        let parent = node.parent;
-        let Parent::By(up, step) = parent else {
-            return;
-        };
-        i -= 1;
-        steps[i] = costs::code(step);
+    for i in (0..steps.len()).rev() {
+        let (up, step) = parent(nodes, heads, n, at).unwrap();
+        steps[i] = u16::from(step);
         at = up;
     }
 }
@@ -96,14 +67,12 @@ pub fn reconstruct_steps(
     start: PackedState,
     goal: PackedState,
     most: usize,
-) -> Back
+) -> Option<usize>
     requires kept { Kept nodes.now heads.now n }
     requires most_in_bounds { most ≤ length steps.old }
     ensures { ReadBack start goal most (nodes_of nodes.now n) steps.old steps.new result }
 {
-    let Back::Steps(k) = count_steps(nodes, heads, n, start, goal, most) else {
-        return Back::Lost;
-    };
-    write_steps(nodes, heads, steps, n, start, goal, most, k);
-    Back::Steps(k)
+    let k = count_steps(nodes, heads, n, start, goal, most)?;
+    write_steps(nodes, heads, n, goal, &mut steps[..k]);
+    Some(k)
 }

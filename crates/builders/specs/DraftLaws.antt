@@ -1,7 +1,7 @@
 -- A draft whose steps replay from the start to its window; each allowed step keeps that, and so does star-swap.
 use Rattle.std.specs.Prelude.{ℕ, suc, ◌+◌, ◌<◌, ◌≤◌, true, List, [], ◌∷◌, ◌++◌, ◌≡◌, refl, length}
 use Rattle.std.proofs.Common.{ap, sym, ◌∙◌, arith, lt-ltb}
-use Rattle.std.proofs.Math.Option.{Option, none, some}
+use Rattle.std.specs.Prelude.{Option, None, Some}
 use Rattle.costs.specs.Laws.{OperandFits, decoded_code}
 use Rattle.costs.specs.Step.{decoded, code_of}
 use Rattle.costs.specs.declared.Step.{Step}
@@ -35,8 +35,8 @@ ran_append q i (c ∷ a) b w v e = go (λ u. ran_append q (suc i) a b u v) (step
 
     go : ((u : List ℕ) → ran_on q (suc i) a u ≡ ends v → ran_on q (suc i) (a ++ b) u ≡ ran_on q (suc i + length a) b v) →
         (o : Option (List ℕ)) → onward i (λ u. ran_on q (suc i) a u) o ≡ ends v → onward i (λ u. ran_on q (suc i) (a ++ b) u) o ≡ ran_on q (i + suc (length a)) b v
-    go h none f = let n : ◌≡◌ {A = ℕ} 0 1 = cc in absurd (omega arith)
-    go h (some u) f = h u f ∙ ap (λ (k : ℕ). ran_on q k b v) (sym z)
+    go h None f = let n : ◌≡◌ {A = ℕ} 0 1 = cc in absurd (omega arith)
+    go h (Some u) f = h u f ∙ ap (λ (k : ℕ). ran_on q k b v) (sym z)
 
 pub ran_one : (q : Rules) (i : ℕ) (s : Step) (w : List ℕ) → OperandFits s → allows q s (length w) ≡ true → ran_on q i (code_of s ∷ []) w ≡ ends (after s w)
 unfolding ran_on

@@ -1,6 +1,6 @@
 -- Dup-and-star (document 01, "A bound before the search"): surplus keys go, missing keys come, star-swap finishes.
 use Rattle.std.specs.Prelude.{ℕ, zero, suc, ◌-◌, Bool, not, ◌&&◌, ◌||◌, List, [], ◌∷◌, length, eqb, ltb}
-use Rattle.std.proofs.Math.Option.{Option, none, some}
+use Rattle.std.specs.Prelude.{Option, None, Some}
 use Rattle.costs.specs.Choice.{◌if◌otherwise◌}
 use Rattle.costs.specs.declared.Step.{Step}
 use Rattle.costs.specs.declared.Step.TheVariants.{Pop, Dup, Swap, PushImm, LoadVal}
@@ -16,8 +16,8 @@ first_at t (x ∷ w) = 0 if t x otherwise suc (first_at t w)
 
 -- a phase behind a phase; none where the first has none
 abbrev pub and_then : Option Draft → (Draft → Option Draft) → Option Draft
-and_then none f = none
-and_then (some p) f = f p
+and_then None f = None
+and_then (Some p) f = f p
 
 -- a key that stands in the window more often than in the goal
 abbrev pub surplus : List ℕ → List ℕ → ℕ → Bool
@@ -37,11 +37,11 @@ within swap_max d = eqb d 0 || ltb d swap_max
 
 -- the first surplus key from the top goes, until none is left; none where it is out of reach. The number is fuel: the window's length
 unfoldable pub trimmed : ℕ → ℕ → List ℕ → Draft → Option Draft
-trimmed zero swap_max goal p = some p
+trimmed zero swap_max goal p = Some p
 trimmed (suc n) swap_max goal p =
-    (trimmed n swap_max goal (drop_at (surplus_at goal p.window) p) if within swap_max (surplus_at goal p.window) otherwise none)
+    (trimmed n swap_max goal (drop_at (surplus_at goal p.window) p) if within swap_max (surplus_at goal p.window) otherwise None)
     if ltb (surplus_at goal p.window) (length p.window) otherwise
-    some p
+    Some p
 
 -- a key that the window has not is pushed or loaded by its kind
 unfoldable pub made : List ℕ → ℕ → Step
@@ -54,30 +54,30 @@ place_of k w = first_at (eqb k) w
 -- a copy of the key at a place: by Dup below dup_max, else swapped up first, above swap_max and if dup_max is not 0; none where it is out of reach
 unfoldable pub copied : ℕ → ℕ → ℕ → Draft → Option Draft
 copied dup_max swap_max d p =
-    some (does (Dup d) p) if ltb d dup_max otherwise
-    some (does (Dup 0) (does (Swap d) p)) if (not (eqb dup_max 0) && ltb d swap_max) otherwise
-    none
+    Some (does (Dup d) p) if ltb d dup_max otherwise
+    Some (does (Dup 0) (does (Swap d) p)) if (not (eqb dup_max 0) && ltb d swap_max) otherwise
+    None
 
 -- one key more: a copy from the highest place, or the key made; none where the window is full
 unfoldable pub added : Rules → ℕ → Draft → Option Draft
 added q k p =
-    (copied q.dup_max q.swap_max (place_of k p.window) p if ltb (place_of k p.window) (length p.window) otherwise some (does (made q.kinds k) p))
+    (copied q.dup_max q.swap_max (place_of k p.window) p if ltb (place_of k p.window) (length p.window) otherwise Some (does (made q.kinds k) p))
     if room q.max_len (length p.window) otherwise
-    none
+    None
 
 -- so many of a key more
 unfoldable pub added_times : ℕ → Rules → ℕ → Draft → Option Draft
-added_times zero q k p = some p
+added_times zero q k p = Some p
 added_times (suc n) q k p = and_then (added q k p) (added_times n q k)
 
 -- the missing keys in rising order: the first number counts the keys to come, the second is the key
 unfoldable pub filled : ℕ → ℕ → Rules → List ℕ → Draft → Option Draft
-filled zero k q goal p = some p
+filled zero k q goal p = Some p
 filled (suc m) k q goal p = and_then (added_times (count_of k goal - count_of k p.window) q k p) (filled m (suc k) q goal)
 
 -- star-swap finishes; none where it refuses
 unfoldable pub finished : ℕ → List ℕ → Draft → Option Draft
-finished swap_max goal p = none if unroutable swap_max p.window goal otherwise some (routed goal p)
+finished swap_max goal p = None if unroutable swap_max p.window goal otherwise Some (routed goal p)
 
 -- the plan, or none
 unfoldable pub dup_and_star : Rules → List ℕ → List ℕ → Option Draft

@@ -2,7 +2,7 @@
 use Prim.Native.Nat.{ℕ, zero, suc, ◌+◌, ◌-◌, ◌*◌, ◌<◌, ◌≤◌}
 use Rattle.std.proofs.Math.Bool.{true}
 use Rattle.std.specs.Prelude.{false, not, ◌&&◌, List, ◌≡◌, eqb}
-use Rattle.std.proofs.Math.Option.{Option, none, some}
+use Rattle.std.specs.Prelude.{Option, None, Some}
 use Rattle.std.proofs.Math.Path.{refl}
 use native.Mathlib.Omega.{arith}
 use borrow.Author.Tests.{ltb-true, ltb-false, eqb-false, not-true, lt-ltb}
@@ -27,22 +27,17 @@ use Rattle.builders.specs.DraftLaws.{Reached, reached_fresh, reached_does, pop_a
 use Rattle.builders.specs.TailLaws.{does_length, swap_pop_lem}
 use Rattle.builders.specs.Small.{Tame, after_small}
 use Rattle.builders.specs.Tests.{kind_value}
-use Rattle.builders.specs.Work.{length_after, length_after_lem}
+use Rattle.builders.specs.Work.{length_after, does_size}
 use Rattle.builders.specs.Dup.{and_then, surplus_at, drop_at, within, trimmed, made, place_of, copied, added, added_times, filled, finished, dup_and_star}
 
 -- a property of what comes of a builder, if anything does
 abbrev pub If : (Draft → Type 0) → Option Draft → Type 0
-If P none = Unit {0}
-If P (some p) = P p
+If P None = Unit {0}
+If P (Some p) = P p
 
 pub if_then : (P Q : Draft → Type 0) (o : Option Draft) (f : Draft → Option Draft) → If P o → ((p : Draft) → P p → If Q (f p)) → If Q (and_then o f)
-if_then P Q none f h k = tt
-if_then P Q (some p) f h k = k p h
-
--- the lengths of a draft's parts after a step
-pub does_size : (s : Step) (p : Draft) → length (does s p).window ≡ length_after s (length p.window)
-unfolding does
-does_size s p = length_after_lem s p.window
+if_then P Q None f h k = tt
+if_then P Q (Some p) f h k = k p h
 
 pub does_small : (s : Step) (p : Draft) → Tame s p.window → Small p.window → Small (does s p).window
 unfolding does

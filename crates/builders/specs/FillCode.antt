@@ -1,77 +1,51 @@
 -- What dup-and-star's second phase needs and gives: copies, keys made, and the missing keys in rising order.
-use Prim.Native.Nat.{ℕ, zero, suc, ◌+◌, ◌-◌, ◌*◌, ◌<◌, ◌≤◌}
-use Rattle.std.specs.Prelude.{Bool, not, ◌&&◌, List, ◌≡◌, length, get_or, drop, eqb}
-use Rattle.std.proofs.Math.Bool.{true, false}
-use Rattle.std.proofs.Math.Option.{Option, none, some}
-use Rattle.std.proofs.Math.Path.{refl, ap}
-use Rattle.std.proofs.Common.{sym, subst, ◌∙◌, drop_of_length-le}
-use native.Mathlib.Omega.{arith}
-use Rattle.std.proofs.Math.Numerals.{add-one}
-use borrow.Author.Tests.{lt-ltb, le-ltb, eq-eqb, ne_eqb}
-use Rattle.costs.specs.Choice.{◌if◌otherwise◌}
-use Rattle.costs.specs.Laws.{count_of_turn}
+use Rattle.std.specs.Prelude.{◌⊎◌, ℕ, zero, suc, ◌+◌, ◌-◌, ◌*◌, ◌<◌, ◌≤◌, Bool, true, false, List, ◌==◌, ◌≡◌, refl, [], ◌∷◌, Option, None, Some, IfSome, cond, min, length, get_or, leb, filter, position}
+use Rattle.std.specs.List.{fold, reduce}
+use Rattle.std.proofs.Common.{ap, sym, subst, ◌∙◌, add-one, arith, inl, inr, lt-ltb, le-ltb, eq-eqb, ne_eqb}
+use Rattle.std.proofs.lemmas.Bool.{leb-true, leb-false}
+use Rattle.costs.specs.Table.{count_of}
 use Rattle.costs.specs.declared.Step.{Step}
 use Rattle.costs.specs.declared.Step.TheVariants.{Dup, Swap, PushImm, LoadVal}
 use Rattle.replay.specs.Machine.{Rules, room, immediate}
 use Rattle.replay.specs.Laws.{Ready}
-use Rattle.window.specs.Keys.{keys_of, Window as Packed}
-use Rattle.builders.specs.Draft.{Draft, does}
-use Rattle.costs.specs.Table.{count_of}
 use Rattle.star_swap.specs.Tests.{by_test}
-use Rattle.builders.specs.Work.{draft_of, length_after, Acted}
+use Rattle.builders.specs.Draft.{Draft, does}
+use Rattle.builders.specs.Work.{length_after, acted}
 use Rattle.builders.specs.Dup.{and_then, made, place_of, copied, added, added_times, filled}
-use Rattle.builders.specs.Area.{Work, length_of, Tried}
-use Rattle.builders.specs.TrimCode.{Fit, first_at_low, tried_of}
+use Rattle.builders.specs.TrimCode.{Fit, found_is, absent_is}
 
--- a work area that is being filled
-pub record Room (w : Work) : Type 0 where
-  pub held : Packed w.state
-  pub few : w.count ≤ 42 + 2 * length_of w
-  pub full : length w.steps ≡ 128
+-- a plan that is being filled
+pub record Room (p : Draft) : Type 0 where
+  pub few : length p.steps ≤ 42 + 2 * length p.window
 
-pub fit_room : (w : Work) → Fit w → Room w
-fit_room w f = record { held = f.held; few = omega (arith, f.few); full = f.full }
+pub fit_room : (p : Draft) → Fit p → Room p
+fit_room p f = record { few = omega (arith, f.few) }
+
+-- a step that makes the window longer keeps the room, also after another
+grown : (s : Step) (p r : Draft) → Room p → length_after s (length p.window) ≡ length p.window + 1 → r ≡ does s p → Room r
+grown s p r f l e = let a = acted s p r e in record { few = omega (arith, a.0, a.1, f.few) }
 
 -- a copy of the key at a place
-pub record Copied (dup sm d : ℕ) (w : Work) (r : Tried) : Type 0 where
-  pub is : tried_of r ≡ copied dup sm d (draft_of w)
-  pub room : Room r.work
-
-module _ (dup sm d : ℕ) (w : Work) (f : Room w) (l : d < length_of w) (n : length_of w < 21) where
-  pub copy_dup : (r : Work) → d < dup → Acted (Dup d) w r → Copied dup sm d w (record { ok = true; work = r })
+module _ (dup sm d : ℕ) (p : Draft) (f : Room p) where
+  pub copy_dup : (r : Draft) → d < dup → r ≡ does (Dup d) p → (Some r ≡ copied dup sm d p) × Room r
   unfolding copied
-  copy_dup r h a =
-      record {
-        is = rw (lt-ltb d dup h) (ap some a.draft);
-        room = record { held = a.held; few = omega (arith, a.size, a.count, f.few); full = a.full ∙ f.full };
-      }
+  copy_dup r h e = (rw (lt-ltb d dup h) (ap Some e), grown (Dup d) p r f refl e)
 
-  pub copy_no_dup : dup ≤ d → dup ≡ 0 → Copied dup sm d w (record { ok = false; work = w })
+  pub copy_none : dup ≤ d → (dup ≡ 0) ⊎ ((dup ≡ 0 → ⊥) × (sm ≤ d)) → None ≡ copied dup sm d p
   unfolding copied
-  copy_no_dup h e = record { is = rw (le-ltb d dup h, eq-eqb dup 0 e); room = f }
+  copy_none h (inl z) = rw (le-ltb d dup h, eq-eqb dup 0 z)
+  copy_none h (inr z) = rw (le-ltb d dup h, ne_eqb dup 0 z.0, le-ltb d sm z.1)
 
-  pub copy_far : dup ≤ d → sm ≤ d → Copied dup sm d w (record { ok = false; work = w })
-  unfolding copied
-  copy_far h e = record { is = rw (le-ltb d dup h, le-ltb d sm e) (sym (no_and (not (eqb dup 0)))); room = f }
-    where
-      no_and : (b : Bool) → (some (does (Dup 0) (does (Swap d) (draft_of w))) if (b && false) otherwise none) ≡ none
-      no_and true = refl
-      no_and false = refl
-
-  pub copy_up : (s r : Work) → dup ≤ d → (dup ≡ 0 → ⊥) → d < sm → Acted (Swap d) w s → Acted (Dup 0) s r → Copied dup sm d w (record { ok = true; work = r })
+  pub copy_up : (s r : Draft) → dup ≤ d → (dup ≡ 0 → ⊥) → d < sm → s ≡ does (Swap d) p → r ≡ does (Dup 0) s → (Some r ≡ copied dup sm d p) × Room r
   unfolding copied
   copy_up s r h e g a b =
-      record {
-        is = rw (le-ltb d dup h, ne_eqb dup 0 e, lt-ltb d sm g) (ap some (b.draft ∙ ap (does (Dup 0)) a.draft));
-        room =
-            record {
-              held = b.held;
-              few = omega (arith, a.size, a.count, b.size, b.count, f.few);
-              full = b.full ∙ a.full ∙ f.full;
-            };
-      }
+      let x = acted (Swap d) p s a in
+      let y = acted (Dup 0) s r b in (
+        rw (le-ltb d dup h, ne_eqb dup 0 e, lt-ltb d sm g) (ap Some (b ∙ ap (does (Dup 0)) a)),
+        record { few = omega (arith, x.0, x.1, y.0, y.1, f.few) },
+      )
 
-pub made_size : (kinds : List ℕ) (k n : ℕ) → length_after (made kinds k) n ≡ n + 1
+made_size : (kinds : List ℕ) (k n : ℕ) → length_after (made kinds k) n ≡ n + 1
 unfolding made
 made_size kinds k n = by_test (λ (s : Step). length_after s n ≡ n + 1) (immediate kinds k) (PushImm k) (LoadVal k) (λ e. refl) (λ e. refl)
 
@@ -79,184 +53,174 @@ pub made_ready : (kinds : List ℕ) (k n : ℕ) → k < 64 → n < 21 → Ready 
 unfolding made
 made_ready kinds k n h l = by_test (λ (s : Step). Ready s n) (immediate kinds k) (PushImm k) (LoadVal k) (λ e. (h, l)) (λ e. (h, l))
 
-pub place_low : (w : Work) (k d : ℕ) → d ≡ place_of k (keys_of w.state) → (d ≡ length_of w → ⊥) → d < length_of w
-place_low w k d e ne = omega (arith, first_at_low (eqb k) (keys_of w.state))
-
 -- one key more
-pub record AddDone (q : Rules) (k : ℕ) (w : Work) (r : Tried) : Type 0 where
-  pub is : tried_of r ≡ added q k (draft_of w)
-  pub room : Room r.work
-
-module _ (q : Rules) (k : ℕ) (w : Work) (f : Room w) where
-  pub add_full : q.max_len ≤ length_of w → AddDone q k w (record { ok = false; work = w })
+module _ (q : Rules) (k : ℕ) (p : Draft) where
+  pub add_full : q.max_len ≤ length p.window → None ≡ added q k p
   unfolding added room
-  add_full h = record { is = rw (le-ltb (length_of w) q.max_len h); room = f }
+  add_full h = rw (le-ltb (length p.window) q.max_len h)
 
-  module _ (h : length_of w < q.max_len) (m : q.max_len ≤ 21) (d : ℕ) (e : d ≡ place_of k (keys_of w.state)) where
-    pub add_made : (r : Work) → k < 64 → d ≡ length_of w → Acted (made q.kinds k) w r → AddDone q k w (record { ok = true; work = r })
+  module _ (h : length p.window < q.max_len) where
+    pub add_made : (r : Draft) → Room p → None ≡ position (λ x. k == x) p.window → r ≡ does (made q.kinds k) p → (Some r ≡ added q k p) × Room r
     unfolding added room
-    add_made r l g a =
-        let size : length_of r ≡ length_of w + 1 = a.size ∙ made_size q.kinds k (length_of w) in
-        record {
-          is = rw (← e, lt-ltb (length_of w) q.max_len h, le-ltb d (length_of w) (omega arith)) (ap some a.draft);
-          room = record { held = a.held; few = omega (arith, a.count, f.few); full = a.full ∙ f.full };
-        }
+    add_made r f n e =
+        let m : place_of k p.window ≡ length p.window = absent_is (λ x. k == x) p.window n in
+        (rw (lt-ltb (length p.window) q.max_len h, le-ltb (place_of k p.window) (length p.window) (omega (arith, m))) (ap Some e), grown (made q.kinds k) p r f (made_size q.kinds k (length p.window)) e)
 
-    pub add_copy : (r : Tried) → (d ≡ length_of w → ⊥) → Copied q.dup_max q.swap_max d w r → AddDone q k w r
+    pub add_copy : (d : ℕ) (r : Option Draft) → Some d ≡ position (λ x. k == x) p.window → r ≡ copied q.dup_max q.swap_max d p → r ≡ added q k p
     unfolding added room
-    add_copy r ne c =
-        record {
-          is = c.is ∙ rw (← e, lt-ltb (length_of w) q.max_len h, lt-ltb d (length_of w) (place_low w k d e ne));
-          room = c.room;
-        }
+    add_copy d r n e =
+        let m = found_is (λ x. k == x) p.window d n in
+        rw (lt-ltb (length p.window) q.max_len h, ← m.0, lt-ltb d (length p.window) m.1) e
 
 -- so many keys more
-module _ (q : Rules) (k : ℕ) where
-  pub times_turn : (n i : ℕ) (p : Draft) → i < n → added_times (n - i) q k p ≡ and_then (added q k p) (added_times (n - (i + 1)) q k)
+module _ (q : Rules) (k n : ℕ) where
+  times_turn : (i : ℕ) (p : Draft) → i < n → added_times (n - i) q k p ≡ and_then (added q k p) (added_times (n - (i + 1)) q k)
   unfolding added_times
-  times_turn n i p h = let e : n - i ≡ suc (n - (i + 1)) = omega arith in rw e
+  times_turn i p h = let e : n - i ≡ suc (n - (i + 1)) = omega arith in rw e
 
-  pub times_none : (n i : ℕ) (p : Draft) → n ≤ i → added_times (n - i) q k p ≡ some p
+  times_none : (i : ℕ) (p : Draft) → n ≤ i → added_times (n - i) q k p ≡ Some p
   unfolding added_times
-  times_none n i p h = let e : n - i ≡ 0 = omega arith in rw e
+  times_none i p h = let e : n - i ≡ 0 = omega arith in rw e
 
-pub record TimesDone (n : ℕ) (q : Rules) (k : ℕ) (w : Work) (r : Tried) : Type 0 where
-  pub is : tried_of r ≡ added_times n q k (draft_of w)
-  pub room : Room r.work
+  pub record Adding (p₀ p : Draft) (i : ℕ) : Type 0 where
+    pub room : Room p
+    pub left : added_times (n - i) q k p ≡ added_times n q k p₀
 
-pub record Adding (n : ℕ) (q : Rules) (k : ℕ) (w₀ w : Work) (i : ℕ) : Type 0 where
-  pub low : i ≤ n
-  pub room : Room w
-  pub left : added_times (n - i) q k (draft_of w) ≡ added_times n q k (draft_of w₀)
+  module _ (p₀ p : Draft) (i : ℕ) (v : Adding p₀ p i) where
+    turned : (o : Option Draft) → i < n → o ≡ added q k p → and_then o (added_times (n - (i + 1)) q k) ≡ added_times n q k p₀
+    turned o l a = ap (λ (x : Option Draft). and_then x (added_times (n - (i + 1)) q k)) a ∙ sym (times_turn i p l) ∙ v.left
 
-pub ok_is : (r : Tried) → r.ok ≡ true → tried_of r ≡ some (draft_of r.work)
-ok_is r e = rw e
+    pub adding_next : (r : Draft) → i < n → Some r ≡ added q k p → Room r → Adding p₀ r (i + 1)
+    adding_next r l a f = record { room = f; left = turned (Some r) l a }
 
-pub no_is : (r : Tried) → r.ok ≡ false → tried_of r ≡ none
-no_is r e = rw e
+    pub adding_none : i < n → None ≡ added q k p → None ≡ added_times n q k p₀
+    adding_none l a = turned None l a
 
-module _ (n : ℕ) (q : Rules) (k : ℕ) (w₀ : Work) where
-  pub adding_first : Room w₀ → Adding n q k w₀ w₀ 0
-  adding_first f = record { low = omega arith; room = f; left = ap (λ (m : ℕ). added_times m q k (draft_of w₀)) {x = n - 0} {y = n} (omega arith) }
+    pub adding_last : n ≤ i → Some p ≡ added_times n q k p₀
+    adding_last l = sym (times_none i p l) ∙ v.left
 
-  module _ (w : Work) (i : ℕ) (v : Adding n q k w₀ w i) where
-    pub adding_next : (r : Tried) → i < n → AddDone q k w r → r.ok ≡ true → Adding n q k w₀ r.work (i + 1)
-    adding_next r l a e =
-        record {
-          low = omega arith;
-          room = a.room;
-          left = sym (times_turn q k n i (draft_of w) l ∙ ap (λ (o : Option Draft). and_then o (added_times (n - (i + 1)) q k)) (sym a.is ∙ ok_is r e)) ∙ v.left;
-        }
-
-    pub adding_none : (r : Tried) → i < n → AddDone q k w r → r.ok ≡ false → TimesDone n q k w₀ (record { ok = false; work = r.work })
-    adding_none r l a e =
-        record {
-          is = sym (sym v.left ∙ times_turn q k n i (draft_of w) l ∙ ap (λ (o : Option Draft). and_then o (added_times (n - (i + 1)) q k)) (sym a.is ∙ no_is r e));
-          room = a.room;
-        }
-
-    pub adding_last : n ≤ i → TimesDone n q k w₀ (record { ok = true; work = w })
-    adding_last l = record { is = sym (sym v.left ∙ times_none q k n i (draft_of w) l); room = v.room }
-
--- no key from k to m, m left out, stands in the goal
-pub record Unwanted (goal : List ℕ) (k m : ℕ) : Type 0 where
-  pub low : k ≤ m
+-- the least key of the goal from a key on, if there is one
+pub record Next (goal : List ℕ) (from m : ℕ) : Type 0 where
+  pub low : from ≤ m
   pub high : m ≤ 64
-  pub idle : (j : ℕ) → k ≤ j → j < m → count_of j goal ≡ 0
+  pub idle : (j : ℕ) → from ≤ j → j < m → count_of j goal ≡ 0
 
--- the same of the first i places of the goal
-pub record Passing (goal : List ℕ) (k m i : ℕ) : Type 0 where
-  pub low : k ≤ m
-  pub high : m ≤ 64
-  pub left : (j : ℕ) → k ≤ j → j < m → count_of j goal ≡ count_of j (drop i goal)
+abbrev pub next_of : Option ℕ → ℕ
+next_of (Some m) = m
+next_of None = 64
 
-module _ (goal : List ℕ) (k : ℕ) where
-  pub passing_first : k ≤ 64 → Passing goal k 64 0
-  passing_first h = record { low = h; high = omega arith; left = λ j l g. refl }
+-- the least of a first number and the keys of the goal from a key on
+record Least (from x : ℕ) (goal : List ℕ) (m : ℕ) : Type 0 where
+  low : from ≤ m
+  high : m ≤ x
+  idle : (j : ℕ) → from ≤ j → j < m → count_of j goal ≡ 0
 
-  pub passing_last : (m i : ℕ) → Passing goal k m i → length goal ≤ i → Unwanted goal k m
-  passing_last m i v h = record { low = v.low; high = v.high; idle = λ j l g. v.left j l g ∙ rw (drop_of_length-le goal {i = i} h) }
+least : (from x : ℕ) (goal : List ℕ) → from ≤ x → Least from x goal (fold min x (filter (λ k. leb from k) goal))
+least from x [] h = record { low = h; high = omega arith; idle = λ j l g. refl }
+least from x (y ∷ goal) h = go (leb from y) refl (λ z l. least from z goal l)
+  where
+    go : (b : Bool) → leb from y ≡ b → ((z : ℕ) → from ≤ z → Least from z goal (fold min z (filter (λ k. leb from k) goal))) →
+        Least from x (y ∷ goal) (fold min x (cond b (y ∷ filter (λ k. leb from k) goal) (filter (λ k. leb from k) goal)))
+    go true e rest =
+        let l : from ≤ y = leb-true from y e in
+        let r = rest (min x y) (omega arith) in
+        record { low = r.low; high = omega (arith, r.high); idle = λ j a b. rw (ne_eqb y j (λ z. omega (arith, r.high))) (r.idle j a b) }
+    go false e rest =
+        let l : y < from = leb-false from y e in
+        let r = rest x h in
+        record { low = r.low; high = r.high; idle = λ j a b. rw (ne_eqb y j (λ z. omega arith)) (r.idle j a b) }
 
-  module _ (m i : ℕ) (v : Passing goal k m i) (h : i < length goal) where
-    -- the key at place i lies outside, and m stays or becomes less
-    turn : (n : ℕ) → k ≤ n → n ≤ m → ((j : ℕ) → k ≤ j → j < n → get_or goal i 0 ≡ j → ⊥) → Passing goal k n (i + 1)
-    turn n a b f =
+-- what the code finds: the least key that stands in the goal from a key on
+pub record Finds (from : ℕ) (goal : List ℕ) (r : Option ℕ) : Type 0 where
+  pub next : Next goal from (next_of r)
+  pub key : IfSome r (λ m. m < 64)
+
+finds : (from : ℕ) → from ≤ 64 → (goal : List ℕ) → ((i : ℕ) → i < length goal → get_or goal i 0 < 64) → Finds from goal (reduce min (filter (λ k. leb from k) goal))
+finds from h [] keys = record { next = record { low = h; high = omega arith; idle = λ j l g. refl }; key = tt }
+finds from h (y ∷ goal) keys = go (leb from y) refl (finds from h goal (λ i l. keys (suc i) (omega arith)))
+  where
+    go : (b : Bool) → leb from y ≡ b → Finds from goal (reduce min (filter (λ k. leb from k) goal)) → Finds from (y ∷ goal) (reduce min (cond b (y ∷ filter (λ k. leb from k) goal) (filter (λ k. leb from k) goal)))
+    go true f rest =
+        let l : from ≤ y = leb-true from y f in
+        let y-low : y < 64 = keys 0 (omega arith) in
+        let r = least from y goal l in
         record {
-          low = a;
-          high = omega (arith, v.high);
-          left = λ j l g. v.left j l (omega arith) ∙ count_of_turn j goal i h ∙ rw (ne_eqb (get_or goal i 0) j (f j l g));
+          next = record { low = r.low; high = omega (arith, r.high); idle = λ j a b. rw (ne_eqb y j (λ z. omega (arith, r.high))) (r.idle j a b) };
+          key = omega (arith, r.high);
+        }
+    go false f rest =
+        let l : y < from = leb-false from y f in
+        record {
+          next = record { low = rest.next.low; high = rest.next.high; idle = λ j a b. rw (ne_eqb y j (λ z. omega arith)) (rest.next.idle j a b) };
+          key = rest.key;
         }
 
-    pub passing_less : k ≤ get_or goal i 0 → get_or goal i 0 < m → Passing goal k (get_or goal i 0) (i + 1)
-    passing_less a b = turn (get_or goal i 0) a (omega arith) (λ j l g e. omega arith)
+-- the keys below one are there, and the others decide
+module _ (q : Rules) (goal : List ℕ) (p₀ : Draft) where
+  pub record Filling (p : Draft) (k : ℕ) : Type 0 where
+    pub room : Room p
+    pub left : filled (64 - k) k q goal p ≡ filled 64 0 q goal p₀
 
-    pub passing_below : get_or goal i 0 < k → Passing goal k m (i + 1)
-    passing_below a = turn m v.low (omega arith) (λ j l g e. omega arith)
-
-    pub passing_above : m ≤ get_or goal i 0 → Passing goal k m (i + 1)
-    passing_above a = turn m v.low (omega arith) (λ j l g e. omega arith)
-
--- the keys in rising order
-pub record FillDone (q : Rules) (goal : List ℕ) (w : Work) (r : Tried) : Type 0 where
-  pub is : tried_of r ≡ filled 64 0 q goal (draft_of w)
-  pub room : Room r.work
-
-pub record Filling (q : Rules) (goal : List ℕ) (w₀ w : Work) (k : ℕ) : Type 0 where
-  pub low : k ≤ 64
-  pub room : Room w
-  pub left : filled (64 - k) k q goal (draft_of w) ≡ filled 64 0 q goal (draft_of w₀)
-
-module _ (q : Rules) (goal : List ℕ) (w₀ : Work) where
   fill_turn : (k : ℕ) (p : Draft) → k < 64 → filled (64 - k) k q goal p ≡ and_then (added_times (count_of k goal - count_of k p.window) q k p) (filled (64 - (k + 1)) (k + 1) q goal)
   unfolding filled
   fill_turn k p l = let e : 64 - k ≡ suc (64 - (k + 1)) = omega arith in rw (e, add-one k)
 
-  fill_none : (k : ℕ) (p : Draft) → 64 ≤ k → filled (64 - k) k q goal p ≡ some p
-  unfolding filled
-  fill_none k p l = let e : 64 - k ≡ 0 = omega arith in rw e
+  module _ (p : Draft) (k : ℕ) (v : Filling p k) (l : k < 64) (n : ℕ) (e : n ≡ count_of k goal - count_of k p.window) where
+    filled_by : (o : Option Draft) → o ≡ added_times n q k p → and_then o (filled (64 - (k + 1)) (k + 1) q goal) ≡ filled 64 0 q goal p₀
+    filled_by o a =
+        ap (λ (x : Option Draft). and_then x (filled (64 - (k + 1)) (k + 1) q goal)) (a ∙ ap (λ (m : ℕ). added_times m q k p) e)
+        ∙ sym (fill_turn k p l) ∙ v.left
 
-  pub filling_first : Room w₀ → Filling q goal w₀ w₀ 0
-  filling_first f = record { low = omega arith; room = f; left = refl }
+    one : (r : Draft) → Some r ≡ added_times n q k p → Room r → Filling r (k + 1)
+    one r a f = record { room = f; left = filled_by (Some r) a }
 
-  module _ (w : Work) (k : ℕ) (v : Filling q goal w₀ w k) (l : k < 64) (n : ℕ) (e : n ≡ count_of k goal - count_of k (keys_of w.state)) (r : Tried) (t : TimesDone n q k w r) where
-    fill_one : filled (64 - k) k q goal (draft_of w) ≡ and_then (tried_of r) (filled (64 - (k + 1)) (k + 1) q goal)
-    fill_one =
-        fill_turn k (draft_of w) l ∙ ap (λ (x : ℕ). and_then (added_times x q k (draft_of w)) (filled (64 - (k + 1)) (k + 1) q goal)) (sym e)
-        ∙ ap (λ (o : Option Draft). and_then o (filled (64 - (k + 1)) (k + 1) q goal)) (sym t.is)
-
-    pub filling_next : r.ok ≡ true → Filling q goal w₀ r.work (k + 1)
-    filling_next g =
-        record { low = omega arith; room = t.room; left = sym (fill_one ∙ ap (λ (o : Option Draft). and_then o (filled (64 - (k + 1)) (k + 1) q goal)) (ok_is r g)) ∙ v.left }
-
-    pub filling_none : r.ok ≡ false → FillDone q goal w₀ (record { ok = false; work = r.work })
-    filling_none g =
-        record { is = sym (sym v.left ∙ fill_one ∙ ap (λ (o : Option Draft). and_then o (filled (64 - (k + 1)) (k + 1) q goal)) (no_is r g)); room = t.room }
+    pub filling_none : None ≡ added_times n q k p → None ≡ filled 64 0 q goal p₀
+    filling_none a = filled_by None a
 
   -- keys that do not stand in the goal are passed over
-  fill_idle : (w : Work) (k : ℕ) → Filling q goal w₀ w k → k < 64 → count_of k goal ≡ 0 → Filling q goal w₀ w (k + 1)
-  fill_idle w k v l e =
-      filling_next w k v l 0 (omega (arith, e)) (record { ok = true; work = w })
-      (record { is = sym (times_none q k 0 0 (draft_of w) (omega arith)); room = v.room }) refl
+  idle : (p : Draft) (k : ℕ) → Filling p k → k < 64 → count_of k goal ≡ 0 → Filling p (k + 1)
+  unfolding added_times
+  idle p k v l e = one p k v l 0 (omega (arith, e)) p refl v.room
 
-  passed_by : (w : Work) (k n : ℕ) → Filling q goal w₀ w k → Unwanted goal k (k + n) → Filling q goal w₀ w (k + n)
-  passed_by w k zero v u = subst (Filling q goal w₀ w) {x = k} {y = k + 0} (omega arith) v
-  passed_by w k (suc n) v u =
-      subst (Filling q goal w₀ w) {x = k + 1 + n} {y = k + suc n} (omega arith)
-      (passed_by w (k + 1) n (fill_idle w k v (omega (arith, u.high)) (u.idle k (omega arith) (omega arith)))
+  passed_by : (p : Draft) (k n : ℕ) → Filling p k → Next goal k (k + n) → Filling p (k + n)
+  passed_by p k zero v u = subst (Filling p) {x = k} {y = k + 0} (omega arith) v
+  passed_by p k (suc n) v u =
+      subst (Filling p) {x = k + 1 + n} {y = k + suc n} (omega arith)
+      (passed_by p (k + 1) n (idle p k v (omega (arith, u.high)) (u.idle k (omega arith) (omega arith)))
       (record { low = omega arith; high = omega (arith, u.high); idle = λ i h g. u.idle i (omega arith) (omega arith) }))
 
-  pub filling_passed : (w : Work) (k m : ℕ) → Filling q goal w₀ w k → Unwanted goal k m → Filling q goal w₀ w m
-  filling_passed w k m v u =
+  passed : (p : Draft) (k m : ℕ) → Filling p k → Next goal k m → Filling p m
+  passed p k m v u =
       let e : k + (m - k) ≡ m = omega (arith, u.low) in
-      subst (Filling q goal w₀ w) e (passed_by w k (m - k) v (subst (Unwanted goal k) (sym e) u))
+      subst (Filling p) e (passed_by p k (m - k) v (subst (Next goal k) (sym e) u))
 
-  pub filling_last : (w : Work) (k : ℕ) → Filling q goal w₀ w k → 64 ≤ k → FillDone q goal w₀ (record { ok = true; work = w })
-  filling_last w k v l = record { is = sym (sym v.left ∙ fill_none k (draft_of w) l); room = v.room }
+  -- where the loop stands: at the next key of the goal, or behind the last
+  pub record Going (p : Draft) (r : Option ℕ) : Type 0 where
+    pub low : IfSome r (λ k. k < 64)
+    pub filling : Filling p (next_of r)
 
-pub made_imm : (kinds : List ℕ) (k : ℕ) (b : Bool) → b ≡ immediate kinds k → b ≡ true → PushImm k ≡ made kinds k
-unfolding made
-made_imm kinds k b e f = let g : immediate kinds k ≡ true = sym e ∙ f in rw g
+  -- at a key
+  pub at_key : (p : Draft) (r : Option ℕ) (k : ℕ) → Going p r → r ≡ Some k → (k < 64) × Filling p k
+  at_key p r k g e = let f : Going p (Some k) = subst (Going p) e g in (f.low, f.filling)
 
-pub made_val : (kinds : List ℕ) (k : ℕ) (b : Bool) → b ≡ immediate kinds k → b ≡ false → LoadVal k ≡ made kinds k
-unfolding made
-made_val kinds k b e f = let g : immediate kinds k ≡ false = sym e ∙ f in rw g
+  -- behind the last
+  pub at_end : (p : Draft) (r : Option ℕ) → Going p r → r ≡ None → Some p ≡ filled 64 0 q goal p₀
+  unfolding filled
+  at_end p r g e = let f : Going p None = subst (Going p) e g in f.filling.left
+
+  module _ (keys : (i : ℕ) → i < length goal → get_or goal i 0 < 64) where
+    pub going_first : (r : Option ℕ) → Room p₀ → r ≡ reduce min (filter (λ k. leb 0 k) goal) → Going p₀ r
+    going_first r f e =
+        let w : Finds 0 goal r = subst (Finds 0 goal) (sym e) (finds 0 (omega arith) goal keys) in
+        record { low = w.key; filling = passed p₀ 0 (next_of r) (record { room = f; left = refl }) w.next }
+
+    pub going_less : (k : ℕ) → k < 64 → (r : Option ℕ) → r ≡ reduce min (filter (λ j. leb (k + 1) j) goal) → 64 - next_of r < 64 - k
+    going_less k l r g =
+        let w : Finds (k + 1) goal r = subst (Finds (k + 1) goal) (sym g) (finds (k + 1) (omega arith) goal keys) in
+        omega (arith, w.next.low)
+
+    pub going_next : (p : Draft) (k : ℕ) → Filling p k → k < 64 → (n : ℕ) → n ≡ count_of k goal - count_of k p.window → (t : Draft) → Some t ≡ added_times n q k p → Room t →
+        (r : Option ℕ) → r ≡ reduce min (filter (λ j. leb (k + 1) j) goal) → Going t r
+    going_next p k v l n e t a f r g =
+        let w : Finds (k + 1) goal r = subst (Finds (k + 1) goal) (sym g) (finds (k + 1) (omega arith) goal keys) in
+        record { low = w.key; filling = passed t (k + 1) (next_of r) (one p k v l n e t a f) w.next }

@@ -12,4 +12,3 @@ pub mod TrimCode
 pub mod FillCode
 pub mod BuildCode
 pub mod Theorems
-pub mod Area

@@ -1,6 +1,6 @@
 -- Delete-tail (document 01, "A bound before the search"): kept keys are swapped under the keys to delete, which are popped; star-swap puts the kept keys in order.
 use Rattle.std.specs.Prelude.{ℕ, zero, suc, ◌-◌, min, Bool, true, false, not, ◌&&◌, ◌||◌, List, [], ◌∷◌, length, eqb, ltb}
-use Rattle.std.proofs.Math.Option.{Option, none, some}
+use Rattle.std.specs.Prelude.{Option, None, Some}
 use Rattle.costs.specs.Choice.{◌if◌otherwise◌}
 use Rattle.costs.specs.declared.Step.TheVariants.{Pop, Swap}
 use Rattle.builders.specs.Draft.{Draft, fresh, does, routed}
@@ -55,4 +55,4 @@ deleted swap_max start goal old = written (tail_refusal swap_max start goal (len
 
 -- delete-tail as a builder: the plan, or none (document 01, "A builder that has none")
 unfoldable pub tail_plan : ℕ → List ℕ → List ℕ → Option (List ℕ)
-tail_plan swap_max start goal = none if not_tail swap_max start goal otherwise some (delete_tail start goal)
+tail_plan swap_max start goal = None if not_tail swap_max start goal otherwise Some (delete_tail start goal)

@@ -1,134 +1,76 @@
 -- Laws that delete-tail's code goes by.
-use Rattle.std.specs.Prelude.{ℕ, ◌+◌, ◌-◌, ◌<◌, ◌≤◌, Bool, true, false, not, ◌||◌, List, [], ◌++◌, ◌≡◌, refl, length, get_or, set, take, drop, ltb}
-use Rattle.std.proofs.Math.Path.{ap, sym, subst}
-use Rattle.std.proofs.Common.{◌∙◌, arith, zero-add, length-set, length-append, length-take-le}
-use borrow.Author.Tests.{ltb-true, ltb-false, not-false, eq-eqb, ne_eqb}
-use Rattle.std.proofs.lemmas.List.{length-map}
-use Rattle.std.proofs.Math.ListN.{drop_of_length-le}
-use Rattle.std.proofs.Math.Seq.{paste, paste-zero}
-use Rattle.costs.specs.Laws.{drop_turn, passed, or_left}
+use Rattle.std.specs.Prelude.{ℕ, zero, suc, ◌+◌, ◌-◌, ◌*◌, ◌<◌, ◌≤◌, Bool, false, not, ◌||◌, ◌&&◌, List, [], ◌∷◌, ◌++◌, ◌≡◌, refl, Ok, Err, length, get_or, take, drop, ltb, eqb}
+use Rattle.std.specs.Cmp.Lexicographic.{pointwise}
+use Rattle.std.proofs.Common.{ap, sym, subst, ◌∙◌, arith}
+use borrow.Author.Tests.{ltb-true, ltb-false, not-false}
+use Rattle.costs.specs.Laws.{passed, or_left}
 use Rattle.costs.specs.Choice.{◌if◌otherwise◌}
-use Rattle.window.specs.Written.{over_turn}
+use Rattle.costs.specs.Refusal.{number_of}
+use Rattle.costs.specs.declared.Refusal.{Refusal}
+use Rattle.costs.specs.declared.Step.TheVariants.{Pop, Swap}
 use Rattle.replay.specs.Machine.{plain_rules}
-use Rattle.window.specs.Keys.{keys_of}
-use Rattle.star_swap.specs.Star.{star_swaps, codes, code}
-use Rattle.star_swap.specs.StarCode.{Pair}
-use Rattle.star_swap.specs.StarLoop.{Appended}
-use Rattle.builders.specs.Draft.{Draft, routed}
-use Rattle.builders.specs.Tail.{begins, bury, pops, dead, buried, uncovered, delete_tail, not_tail, tail_refusal, deleted}
-use Rattle.builders.specs.TailLaws.{IsTail, begins_is, uncovered_pair}
 use Rattle.star_swap.specs.Tests.{or_right}
-use Rattle.star_swap.specs.Refusal.{written}
+use Rattle.star_swap.specs.Refusal.{written_of}
+use Rattle.star_swap.specs.StarCode.{Pair}
 use Rattle.star_swap.specs.Check.{Taken, taken, goal_window}
 use Rattle.star_swap.specs.Call.{written_refused, written_given}
-use Rattle.star_swap.specs.declared.Written.{Written}
-use Rattle.builders.specs.Work.{draft_of, Begun, CanBury, Buried, CanPop, Popped, CanRoute, Wrote}
-use Rattle.builders.specs.Area.{Work}
+use Rattle.builders.specs.Draft.{Draft, fresh, does, routed}
+use Rattle.builders.specs.Tail.{begins, bury, pops, dead, buried, uncovered, delete_tail, not_tail, tail_refusal, deleted}
+use Rattle.builders.specs.TailLaws.{IsTail, begins_is, does_length, uncovered_is, uncovered_pair}
+use Rattle.builders.specs.Work.{does_size}
 
--- what is left of both decides
-pub record Beginning (goal start : List ℕ) (i : ℕ) : Type 0 where
-  pub low : i ≤ length goal
-  pub left : begins goal start ≡ begins (drop i goal) (drop i start)
+-- the goal is the beginning, as the library compares slices
+pub begins_by : (goal start : List ℕ) → pointwise eqb goal (take (length goal) start) ≡ begins goal start
+unfolding begins
+begins_by [] start = refl
+begins_by (x ∷ goal) [] = refl
+begins_by (x ∷ goal) (y ∷ start) = ap (λ (b : Bool). eqb x y && b) (begins_by goal start)
 
-module _ (goal start : List ℕ) where
-  pub begin_first : Beginning goal start 0
-  begin_first = record { low = omega arith; left = refl }
+-- the lengths of what is buried and popped
+bury_sizes : (n i : ℕ) (p : Draft) → n ≤ length p.window → (length (bury n i p).window + n ≡ length p.window) × (length (bury n i p).steps ≡ length p.steps + 2 * n)
+unfolding bury
+bury_sizes zero i p h = (omega arith, omega arith)
+bury_sizes (suc n) i p h =
+    let q : Draft = does (Swap (length p.window - 1 - i)) p in
+    let a = does_size (Swap (length p.window - 1 - i)) p in
+    let b = does_size Pop q in
+    let r = bury_sizes n (suc i) (does Pop q) (omega (arith, a, b)) in
+    (omega (arith, r.0, a, b), omega (arith, r.1, does_length Pop q, does_length (Swap (length p.window - 1 - i)) p))
 
-  pub begin_short : (i : ℕ) → Beginning goal start i → i < length goal → length start ≤ i → false ≡ begins goal start
-  unfolding begins
-  begin_short i v h m = sym (v.left ∙ rw (drop_turn goal i h, drop_of_length-le start m))
-
-  pub begin_differ : (i : ℕ) → Beginning goal start i → i < length goal → i < length start → (get_or goal i 0 ≡ get_or start i 0 → ⊥) → false ≡ begins goal start
-  unfolding begins
-  begin_differ i v h m ne = sym (v.left ∙ rw (drop_turn goal i h, drop_turn start i m, ne_eqb _ _ ne))
-
-  pub begin_next : (i : ℕ) → Beginning goal start i → i < length goal → i < length start → get_or goal i 0 ≡ get_or start i 0 → Beginning goal start (i + 1)
-  unfolding begins
-  begin_next i v h m e = record { low = omega arith; left = v.left ∙ rw (drop_turn goal i h, drop_turn start i m, eq-eqb _ _ e) }
-
-  pub begin_last : (i : ℕ) → Beginning goal start i → length goal ≤ i → true ≡ begins goal start
-  unfolding begins
-  begin_last i v h = sym (v.left ∙ rw (drop_of_length-le goal h))
-
--- the first i places are written
-pub record Giving (plan old now : List ℕ) (n i : ℕ) : Type 0 where
-  pub low : i ≤ n
-  pub len : length now ≡ length old
-  pub text : now ≡ paste old 0 plan i
-
-module _ (plan old : List ℕ) (n : ℕ) where
-  pub giving_first : Giving plan old old n 0
-  giving_first = record { low = omega arith; len = refl; text = paste-zero old 0 plan }
-
-  pub giving_next : (now : List ℕ) (i : ℕ) → Giving plan old now n i → i < n → n ≤ length plan → n ≤ length old → Giving plan old (set now i (get_or plan i 0)) n (i + 1)
-  giving_next now i v h a b = record { low = omega arith; len = length-set now i (get_or plan i 0) ∙ v.len; text = rw v.text (over_turn old plan i (omega arith) (omega arith)) }
-
-  pub giving_last : (now : List ℕ) (i : ℕ) → Giving plan old now n i → n ≤ i → now ≡ take n plan ++ drop n old
-  giving_last now i v h =
-      let e : i ≡ n = omega (arith, v.low) in
-      v.text ∙ rw (e, zero-add n)
-
-pub route_wrote : (w : Work) (goal cur new : List ℕ) (r : ℕ) → CanRoute w goal → length new ≡ length w.steps → cur ≡ keys_of w.state → Appended cur goal w.steps w.count new r →
-    Wrote (record { state = w.state; steps = new; count = r }) (routed goal (draft_of w)).steps
-unfolding routed
-route_wrote w goal cur new r h f e s =
-    let t : take r new ≡ take w.count w.steps ++ codes (star_swaps (keys_of w.state) goal) = s.text ∙ ap (λ (u : List ℕ). take w.count w.steps ++ codes (star_swaps u goal)) e in
-    let n : r ≡ w.count + length (star_swaps (keys_of w.state) goal) = s.number ∙ ap (λ (u : List ℕ). w.count + length (star_swaps u goal)) e in
-    record {
-      text = t;
-      count =
-          omega (
-            arith,
-            n,
-            length-append (take w.count w.steps) (codes (star_swaps (keys_of w.state) goal)),
-            length-map (star_swaps (keys_of w.state) goal) code,
-            length-take-le w.count w.steps (omega (arith, h.room, h.full)),
-          );
-      room = omega (arith, s.few, h.room);
-      full = f ∙ h.full;
-    }
+pops_sizes : (n : ℕ) (p : Draft) → n ≤ length p.window → length (pops n p).steps ≡ length p.steps + n
+unfolding pops
+pops_sizes zero p h = omega arith
+pops_sizes (suc n) p h = omega (arith, pops_sizes n (does Pop p) (omega (arith, does_size Pop p)), does_length Pop p)
 
 -- the parts of delete-tail
-module _ (start goal : List ℕ) (t : IsTail (length start) start goal) (w : Work) (b : Begun start w) where
-  pub can_bury : (n : ℕ) → n ≡ buried start goal → CanBury w n
-  can_bury n e = record { held = b.held; keys = omega (arith, b.size, t.shorter); room = omega (arith, b.count, t.shorter, t.short) }
+module _ (start goal : List ℕ) (t : IsTail (length start) start goal) (n m : ℕ) (e : n ≡ buried start goal) (f : m ≡ dead start goal - n) (w₁ : Draft) (g : w₁ ≡ bury n 0 (fresh start)) where
+  pub tail_pops : (m ≤ length w₁.window) × (length w₁.steps + m ≤ 128)
+  tail_pops =
+      let b = bury_sizes n 0 (fresh start) (omega (arith, t.shorter)) in
+      rw g (omega (arith, b.0, t.shorter), omega (arith, b.1, t.shorter, t.short))
 
-  pub can_pop : (w₁ : Work) (n m : ℕ) → n ≡ buried start goal → m ≡ dead start goal - n → Buried w n w₁ → CanPop w₁ m
-  can_pop w₁ n m e f g =
-      record {
-        held = g.held;
-        keys = omega (arith, b.size, g.size, t.shorter);
-        room = omega (arith, b.count, g.count, t.shorter, t.short);
-      }
-
-  module _ (w₁ w₂ : Work) (n m : ℕ) (e : n ≡ buried start goal) (f : m ≡ dead start goal - n) (g : Buried w n w₁) (h : Popped w₁ m w₂) where
-    pub tail_draft : draft_of w₂ ≡ uncovered start goal
+  module _ (w₂ : Draft) (h : w₂ ≡ pops m w₁) where
+    tail_is : w₂ ≡ uncovered start goal
     unfolding uncovered
-    tail_draft =
-        h.draft ∙ ap (pops m) (g.draft ∙ ap (bury n 0) b.draft) ∙ rw (f, e)
+    tail_is = h ∙ rw (g, f, e)
 
-    pub tail_route : CanRoute w₂ goal
-    tail_route =
-        record {
-          held = h.held;
-          pair = subst (λ (p : Draft). Pair p.window goal) (sym tail_draft) (uncovered_pair (plain_rules 0 (length start) 0 []) start goal t);
-          room = omega (arith, h.count, g.count, b.count, t.shorter, t.short);
-          full = h.full ∙ g.full ∙ b.full;
-        }
+    pub tail_routes : Pair w₂.window goal × (length w₂.steps ≤ 98)
+    tail_routes = subst (λ (p : Draft). Pair p.window goal × (length p.steps ≤ 98)) (sym tail_is)
+        (uncovered_pair (plain_rules 0 (length start) 0 []) start goal t, omega (arith, (uncovered_is (plain_rules 0 (length start) 0 []) start goal t).few))
 
-    pub tail_wrote : (r : Work) → Wrote r (routed goal (draft_of w₂)).steps → Wrote r (delete_tail start goal)
+    pub tail_wrote : (steps : List ℕ) → steps ≡ (routed goal w₂).steps → steps ≡ delete_tail start goal
     unfolding delete_tail
-    tail_wrote r v = subst (λ (p : Draft). Wrote r (routed goal p).steps) tail_draft v
+    tail_wrote steps r = r ∙ ap (λ (p : Draft). (routed goal p).steps) tail_is
 
 -- the call: a refusal, and an accepted question
-module _ (sm : ℕ) (start goal old : List ℕ) (n : ℕ) (e : n ≡ tail_refusal sm start goal (length old)) where
-  pub tail_refused : (n ≡ 0 → ⊥) → ◌≡◌ {A = Written × List ℕ} (record { refusal = n; count = 0 }, old) (deleted sm start goal old)
+module _ (sm : ℕ) (start goal old : List ℕ) where
+  pub tail_refused : (r : Refusal) → number_of r ≡ tail_refusal sm start goal (length old) → (written_of (Err r), old) ≡ deleted sm start goal old
   unfolding deleted
-  tail_refused h = written_refused n (delete_tail start goal) old h ∙ ap (λ (m : ℕ). written m (delete_tail start goal) old) e
+  tail_refused r e = written_refused _ (delete_tail start goal) old r e
 
-  pub tail_given : (new : List ℕ) (w : Work) → n ≡ 0 → Wrote w (delete_tail start goal) → new ≡ take w.count w.steps ++ drop w.count old → ◌≡◌ {A = Written × List ℕ} (record { refusal = 0; count = w.count }, new) (deleted sm start goal old)
+  pub tail_given : (plan new : List ℕ) → 0 ≡ tail_refusal sm start goal (length old) → plan ≡ delete_tail start goal → new ≡ plan ++ drop (length plan) old → (written_of (Ok (length plan)), new) ≡ deleted sm start goal old
   unfolding deleted
-  tail_given new w z v f = written_given n (delete_tail start goal) old new w.count z v.count (f ∙ rw (v.text, v.count)) ∙ ap (λ (m : ℕ). written m (delete_tail start goal) old) e
+  tail_given plan new e f g = written_given _ (delete_tail start goal) old new (length plan) (sym e) (ap length f) (g ∙ ap (λ (l : List ℕ). l ++ drop (length l) old) f)
 
 pub tail_fits : (sm : ℕ) (start goal : List ℕ) → not_tail sm start goal ≡ false → length start ≤ 21 → ((i : ℕ) → i < length goal → get_or goal i 0 < 64) → IsTail sm start goal
 unfolding not_tail

@@ -2,7 +2,7 @@
 use Rattle.std.specs.Prelude.{ℕ, ◌<◌, ◌≤◌, false, ◌||◌, ◌≡◌, refl, take, replicate}
 use Rattle.std.proofs.Math.Bool.{Bool, true, not}
 use mathlib.Core.List.{List, [], ◌∷◌, ◌++◌}
-use Rattle.std.proofs.Math.Option.{none, some}
+use Rattle.std.specs.Prelude.{None, Some}
 use Rattle.std.proofs.Math.Path.{ap}
 use Rattle.std.proofs.Common.{◌∙◌, arith}
 use borrow.Author.Tests.{eq-eqb, lt-ltb, le-ltb, ltb-true, ltb-false, not-false}
@@ -129,18 +129,18 @@ abbrev kinds : List ℕ
 kinds = replicate 32 0 ++ 2 ∷ replicate 31 1
 
 -- 0 1 to the empty window: pop, pop. 0 to 0 0: dup 0, and nothing where no Dup reaches. The empty window to 32: push 32
-two_pops : steps_of (dup_and_star (plain_rules 16 17 21 kinds) (0 ∷ 1 ∷ []) []) ≡ some (0 ∷ 0 ∷ [])
+two_pops : steps_of (dup_and_star (plain_rules 16 17 21 kinds) (0 ∷ 1 ∷ []) []) ≡ Some (0 ∷ 0 ∷ [])
 unfolding dup_and_star trimmed first_at within drop_at filled added_times added copied made finished unroutable routed does after run pick trail_loop trail last_of circuits misplaced star_swaps room immediate
 two_pops = refl
 
-one_dup : steps_of (dup_and_star (plain_rules 16 17 21 kinds) (0 ∷ []) (0 ∷ 0 ∷ [])) ≡ some (256 ∷ [])
+one_dup : steps_of (dup_and_star (plain_rules 16 17 21 kinds) (0 ∷ []) (0 ∷ 0 ∷ [])) ≡ Some (256 ∷ [])
 unfolding dup_and_star trimmed first_at within drop_at filled added_times added copied made finished unroutable routed does after run pick trail_loop trail last_of circuits misplaced star_swaps room immediate
 one_dup = refl
 
-no_dup : steps_of (dup_and_star (plain_rules 0 17 21 kinds) (0 ∷ []) (0 ∷ 0 ∷ [])) ≡ none
+no_dup : steps_of (dup_and_star (plain_rules 0 17 21 kinds) (0 ∷ []) (0 ∷ 0 ∷ [])) ≡ None
 unfolding dup_and_star trimmed first_at within drop_at filled added_times added copied made finished unroutable routed does after run pick trail_loop trail last_of circuits misplaced star_swaps room immediate
 no_dup = refl
 
-one_push : steps_of (dup_and_star (plain_rules 16 17 21 kinds) [] (32 ∷ [])) ≡ some (800 ∷ [])
+one_push : steps_of (dup_and_star (plain_rules 16 17 21 kinds) [] (32 ∷ [])) ≡ Some (800 ∷ [])
 unfolding dup_and_star trimmed first_at within drop_at filled added_times added copied made finished unroutable routed does after run pick trail_loop trail last_of circuits misplaced star_swaps room immediate
 one_push = refl

@@ -1,5 +1,5 @@
-// The public calls as C functions on numbers and slices (a slice passes as a pointer, then a length). Each is one call of capi, with its
-// contract. include/nimskerf_proved.h declares them; c/nimskerf.c, which C programs call, checks pointers and hands on.
+// The public calls as C functions on numbers and slices (a slice passes as a pointer, then a length). Each is one call, with its contract.
+// include/nimskerf_proved.h declares them; c/nimskerf.c, which C programs call, checks pointers and hands on.
 #![tactic(auto)]
 
 ghost use Rattle.std.specs.Prelude.{◌≡◌, length};
@@ -46,7 +46,7 @@ pub extern "C" fn nimskerf_proved_plan(
         steps.old }
     ensures work_kept { WorkKept result.refusal nodes.old nodes.new × WorkKept result.refusal heads.old heads.new × WorkKept result.refusal list.old list.new }
 {
-    capi::nimskerf_proved_plan(
+    planner::plan(
         start,
         goal,
         dup_max,
@@ -79,7 +79,7 @@ pub extern "C" fn nimskerf_proved_replay(
 ) -> Replayed
     ensures { (result, res.new, popped.new) ≡ replayed (above beneath (plain_rules dup_max swap_max max_len kinds.now)) start.now steps.now res.old popped.old }
 {
-    capi::nimskerf_proved_replay(
+    replay::replay(
         start, steps, dup_max, swap_max, max_len, beneath, kinds, res, popped,
     )
 }
@@ -99,7 +99,7 @@ pub extern "C" fn nimskerf_proved_rewind(
     ensures res_after { (result, res.new) ≡ rewound (above beneath (plain_rules dup_max swap_max max_len kinds.now)) end.now steps.now popped.now res.old }
     ensures stepped_back { SteppedBack (above beneath (plain_rules dup_max swap_max max_len kinds.now)) end.now steps.now popped.now res.old (result, res.new) }
 {
-    capi::nimskerf_proved_rewind(
+    rewind::rewind(
         end, steps, popped, dup_max, swap_max, max_len, beneath, kinds, res,
     )
 }
@@ -108,7 +108,7 @@ pub extern "C" fn nimskerf_proved_rewind(
 pub extern "C" fn nimskerf_proved_pops(steps: &[u16]) -> usize
     ensures { result ≡ count_of 0 steps.now }
 {
-    capi::nimskerf_proved_pops(steps)
+    replay::pops(steps)
 }
 
 #[unsafe(no_mangle)]
@@ -127,7 +127,7 @@ pub extern "C" fn nimskerf_proved_mark(
 ) -> Marked
     ensures { result ≡ marked (above beneath (plain_rules dup_max swap_max max_len kinds.now)) prices.now start.now goal.now steps.now (ceiling ceiling_gas ceiling_bytes) }
 {
-    capi::nimskerf_proved_mark(
+    marking::mark(
         start,
         goal,
         steps,
@@ -146,7 +146,7 @@ pub extern "C" fn nimskerf_proved_mark(
 pub extern "C" fn nimskerf_proved_pack(ids: &[u8]) -> Packing
     ensures { result ≡ packing 6 21 ids.now }
 {
-    capi::nimskerf_proved_pack(ids)
+    window::pack(ids)
 }
 
 #[unsafe(no_mangle)]
@@ -158,7 +158,7 @@ pub extern "C" fn nimskerf_proved_star_swap(
 ) -> Written
     ensures { (result, steps.new) ≡ star_swapped swap_max start.now goal.now steps.old }
 {
-    capi::nimskerf_proved_star_swap(start, goal, swap_max, steps)
+    star_swap::star_swap(start, goal, swap_max, steps)
 }
 
 #[unsafe(no_mangle)]
@@ -170,5 +170,5 @@ pub extern "C" fn nimskerf_proved_delete_tail(
 ) -> Written
     ensures { (result, steps.new) ≡ deleted swap_max start.now goal.now steps.old }
 {
-    capi::nimskerf_proved_delete_tail(start, goal, swap_max, steps)
+    builders::delete_tail(start, goal, swap_max, steps)
 }

@@ -1,7 +1,9 @@
 -- Laws of the definitions of this crate that proofs go by.
-use Rattle.std.specs.Prelude.{ℕ, suc, ◌+◌, ◌*◌, ◌/◌, ◌%◌, ◌<◌, Bool, true, false, ◌||◌, List, [], ◌∷◌, ◌++◌, ◌≡◌, refl, length, get_or, drop, eqb, ltb}
+use Rattle.std.specs.Prelude.{ℕ, suc, ◌+◌, ◌*◌, ◌/◌, ◌%◌, ◌<◌, Bool, true, false, ◌||◌, List, [], ◌∷◌, ◌++◌, ◌≡◌, refl, cond, length, get_or, drop, eqb, ltb, Some}
 use Rattle.std.proofs.Common.{arith, eqb-true, ne_eqb, add-one, drop-cons}
 use Rattle.std.proofs.lemmas.Bool.{not-false}
+use Rattle.std.specs.List.{filter}
+use Rattle.std.proofs.Common.{fold, ◌∙◌}
 use Rattle.costs.specs.Choice.{◌if◌otherwise◌}
 use Rattle.costs.specs.Table.{any_over, count_of, kinds_fault}
 use Rattle.costs.specs.declared.Cost.{Cost}
@@ -9,7 +11,6 @@ use Rattle.costs.specs.Cost.{plus}
 use Rattle.costs.specs.Step.{decoded, code_of, of_kind}
 use Rattle.costs.specs.declared.Step.{Step}
 use Rattle.costs.specs.declared.Step.TheVariants.{Pop, Dup, Swap, PushImm, LoadVal}
-use Rattle.costs.specs.declared.Decoded.TheVariants.{Known}
 use Rattle.costs.specs.Price.{price_of, cost_from}
 
 -- a list from place i on is the number at i and the list from the next place on, whatever i + 1 is made of
@@ -54,7 +55,7 @@ of_code k p h f =
     let m : (k * 256 + p) % 256 ≡ p = omega arith in
     rw (ne_eqb _ _ n, d, m)
 
-pub decoded_code : (s : Step) → OperandFits s → decoded (code_of s) ≡ Known s
+pub decoded_code : (s : Step) → OperandFits s → decoded (code_of s) ≡ Some s
 unfolding decoded
 decoded_code Pop f = refl
 decoded_code (Dup p) f = of_code 1 p (omega arith) f
@@ -66,3 +67,24 @@ decoded_code (LoadVal k) f = of_code 4 k (omega arith) f
 pub cost_append : (prices : List ℕ) (sum : Cost) (xs ys : List ℕ) → cost_from prices sum (xs ++ ys) ≡ cost_from prices (cost_from prices sum xs) ys
 cost_append prices sum [] ys = refl
 cost_append prices sum (x ∷ xs) ys = cost_append prices (plus sum (price_of prices (decoded x))) xs ys
+
+-- the same in the library's words
+-- the same in the library's words: a fold over the list
+pub any_over_fold : (limit : ℕ) (b : Bool) (l : List ℕ) → fold (λ over x. over || ltb limit x) b l ≡ (b || any_over limit l)
+any_over_fold limit b [] = or_false b
+  where
+    or_false : (b : Bool) → b ≡ (b || false)
+    or_false true = refl
+    or_false false = refl
+any_over_fold limit b (x ∷ xs) = any_over_fold limit (b || ltb limit x) xs ∙ or_assoc b (ltb limit x)
+  where
+    or_assoc : (b c : Bool) → ((b || c) || any_over limit xs) ≡ (b || (c || any_over limit xs))
+    or_assoc true c = refl
+    or_assoc false c = refl
+
+pub count_of_filter : (k : ℕ) (l : List ℕ) → count_of k l ≡ length (filter (λ x. eqb x k) l)
+count_of_filter k [] = refl
+count_of_filter k (x ∷ xs) = elim (eqb x k) as (λ b. (suc (count_of k xs) if b otherwise count_of k xs) ≡ length (cond b (x ∷ filter (λ y. eqb y k) xs) (filter (λ y. eqb y k) xs))) [ true ↦ rw (count_of_filter k xs) | false ↦ count_of_filter k xs ]
+
+pub some_injective : {A : Type 0} (a b : A) → Some a ≡ Some b → a ≡ b
+some_injective a b e = cc

@@ -5,4 +5,5 @@ pub mod Table
 pub mod Price
 pub mod Packed
 pub mod Laws
-pub mod Most
+pub mod Kind
+pub mod Refusal

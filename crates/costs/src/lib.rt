@@ -1,23 +1,24 @@
-// Costs, stack steps, the price list, and the checks of the two tables.
+// Costs, stack steps, the price list, the checks of the two tables, and why a call refuses its input.
 #![tactic(auto)]
 
-ghost use Rattle.std.specs.Prelude.{◌≡◌, ◌<◌, ◌≤◌, max, ◌||◌, get_or, length};
-ghost use Rattle.costs.specs.Choice.{◌if◌otherwise◌};
-ghost use Rattle.costs.specs.Cost.{capped, none, plus, no_more};
+ghost use Rattle.std.specs.Prelude.{◌≡◌, ◌≤◌, Some, get_or, length};
+ghost use Rattle.std.specs.Result.{result_ok};
+ghost use Rattle.costs.specs.Cost.{none, plus, no_more};
 ghost use Rattle.costs.specs.Step.{decoded, code_of, pair_of};
+ghost use Rattle.costs.specs.Kind.{kind_of};
 ghost use Rattle.costs.specs.Table.{any_over, count_of, kinds_fault, prices_fault};
-ghost use Rattle.costs.specs.Most.{most_from};
 ghost use Rattle.costs.specs.Price.{price_of, cost_for_steps};
 ghost use Rattle.costs.specs.Packed.{cost_of};
+ghost use Rattle.costs.specs.Refusal.{number_of, place_of};
 
 // A cost. Costs compare by gas, then bytes.
-#[derive(Clone, Copy)]
+#[derive(Clone, Copy, PartialEq, Eq, PartialOrd, Ord)]
 pub struct Cost {
     pub gas: u32,
     pub bytes: u32,
 }
 
-#[derive(Clone, Copy)]
+#[derive(Clone, Copy, PartialEq, Eq)]
 pub enum Step {
     Pop,
     Dup(u8),
@@ -26,22 +27,33 @@ pub enum Step {
     LoadVal(u8),
 }
 
-// What a step code stands for.
-#[derive(Clone, Copy)]
-pub enum Decoded {
-    Known(Step),
-    Unknown,
+// A step code that stands for no step.
+#[derive(Clone, Copy, PartialEq, Eq)]
+pub struct UnknownCode(pub u16);
+
+// What a key is, as the table of kinds numbers it: 0, 1, 2.
+#[derive(Clone, Copy, PartialEq, Eq)]
+pub enum Kind {
+    Value,
+    Immediate,
+    Zero,
 }
 
-// The sum of two numbers, or the greatest u32.
-pub fn saturating_add(a: u32, b: u32) -> u32
-    ensures { result ≡ capped a b }
-{
-    if b <= 4294967295 - a {
-        a + b
-    } else {
-        4294967295
-    }
+// Why a call refuses its input, in the order of document 01's numbers from 1 on. A step that is not allowed has its index.
+#[derive(Clone, Copy, PartialEq, Eq)]
+pub enum Refusal {
+    Reach,
+    Window,
+    Allowance,
+    Table,
+    Key,
+    Length,
+    ShortList,
+    Step(usize),
+    Swaps,
+    Tail,
+    Start,
+    Stack,
 }
 
 impl Cost {
@@ -51,39 +63,44 @@ impl Cost {
         Cost { gas: 0, bytes: 0 }
     }
 
+    #[tactic(auto, unfolding(crate::specs::Cost::plus))]
+    // The sum, each part up to the greatest u32.
     pub fn saturating_add(self, rhs: Cost) -> Cost
         ensures { result ≡ plus self rhs }
     {
         Cost {
-            gas: saturating_add(self.gas, rhs.gas),
-            bytes: saturating_add(self.bytes, rhs.bytes),
+            gas: self.gas.saturating_add(rhs.gas),
+            bytes: self.bytes.saturating_add(rhs.bytes),
         }
     }
 
-    // Whether the cost is no more than another.
+    // Whether the cost is no more than another: the derived order, under document 01's word.
+    #[tactic(auto, unfolding(crate::specs::Cost::no_more))]
     pub fn no_more(self, other: Cost) -> bool
         ensures { result ≡ no_more self other }
     {
-        let a = self.gas;
-        let b = other.gas;
-        let x = self.bytes;
-        let y = other.bytes;
-        if a == b { x <= y } else { a < b }
+        self <= other
     }
+}
 
-    // The cost as a number of the work lists.
-    pub fn packed(self) -> u64
-        ensures { cost_of result ≡ self }
-    {
-        let gas = self.gas as u64;
-        let bytes = self.bytes as u64;
+// The cost as a number of the work lists.
+impl From<Cost> for u64 {
+    ghost from_gives = { λ cost number. cost_of number ≡ cost };
+
+    #[tactic(auto, unfolding(crate::specs::Packed::cost_of))]
+    fn from(cost: Cost) -> u64 {
+        let gas = u64::from(cost.gas);
+        let bytes = u64::from(cost.bytes);
         gas * 4294967296 + bytes
     }
+}
 
-    // The cost that a number of the work lists stands for.
-    pub fn unpacked(number: u64) -> Cost
-        ensures { result ≡ cost_of number }
-    {
+// The cost that a number of the work lists stands for.
+impl From<u64> for Cost {
+    ghost from_gives = { λ number cost. cost ≡ cost_of number };
+
+    #[tactic(auto, unfolding(crate::specs::Packed::cost_of))]
+    fn from(number: u64) -> Cost {
         Cost {
             gas: (number / 4294967296) as u32,
             bytes: (number % 4294967296) as u32,
@@ -92,133 +109,135 @@ impl Cost {
 }
 
 // The step that a code stands for: kind times 256 plus operand.
-pub fn decode(code: u16) -> Decoded
-    ensures { result ≡ decoded code }
-{
-    let kind = code / 256;
-    let operand = (code % 256) as u8;
-    if code == 0 {
-        return Decoded::Known(Step::Pop);
-    }
-    if kind == 1 {
-        return Decoded::Known(Step::Dup(operand));
-    }
-    if kind == 2 {
-        return Decoded::Known(Step::Swap(operand));
-    }
-    if kind == 3 {
-        return Decoded::Known(Step::PushImm(operand));
-    }
-    if kind == 4 {
-        return Decoded::Known(Step::LoadVal(operand));
-    }
-    Decoded::Unknown
-}
+impl TryFrom<u16> for Step {
+    type Error = UnknownCode;
 
-// The code of a step.
-pub fn code(step: Step) -> u16
-    ensures { result ≡ code_of step }
-{
-    match step {
-        Step::Pop => 0,
-        Step::Dup(p) => 256 + p as u16,
-        Step::Swap(d) => 512 + d as u16,
-        Step::PushImm(k) => 768 + k as u16,
-        Step::LoadVal(k) => 1024 + k as u16,
+    ghost try_from_gives = { λ code step. result_ok step ≡ decoded code };
+
+    #[tactic(auto, unfolding(crate::specs::Step::decoded))]
+    fn try_from(code: u16) -> Result<Step, UnknownCode> {
+        let operand = (code % 256) as u8;
+        match code / 256 {
+            0 if operand == 0 => Ok(Step::Pop),
+            1 => Ok(Step::Dup(operand)),
+            2 => Ok(Step::Swap(operand)),
+            3 => Ok(Step::PushImm(operand)),
+            4 => Ok(Step::LoadVal(operand)),
+            _ => Err(UnknownCode(code)),
+        }
     }
 }
 
-fn larger(a: u8, b: u8) -> u8
-    ensures { result ≡ max a b }
-{
-    if a < b { b } else { a }
-}
+// The code of a step, which stands for the step.
+impl From<Step> for u16 {
+    ghost from_gives = { λ step code. (code ≡ code_of step) × (decoded code ≡ Some step) };
 
-// The greatest byte of the list, and 0 of none.
-fn greatest(list: &[u8]) -> u8
-    ensures { result ≡ most_from 0 list.now }
-{
-    let mut most: u8 = 0;
-    let mut i = 0;
-    while i < list.len() {
-        most = larger(most, list[i]);
-        i += 1;
+    #[tactic(auto, unfolding(crate::specs::Step::decoded))]
+    fn from(step: Step) -> u16 {
+        match step {
+            Step::Pop => 0,
+            Step::Dup(p) => 256 + u16::from(p),
+            Step::Swap(d) => 512 + u16::from(d),
+            Step::PushImm(k) => 768 + u16::from(k),
+            Step::LoadVal(k) => 1024 + u16::from(k),
+        }
     }
-    most
 }
 
-// Whether some byte of the list is over the limit.
+// The number of a kind.
+impl From<Kind> for u8 {
+    ghost from_gives = { λ kind number. number ≡ kind_of kind };
+
+    fn from(kind: Kind) -> u8 {
+        match kind {
+            Kind::Value => 0,
+            Kind::Immediate => 1,
+            Kind::Zero => 2,
+        }
+    }
+}
+
+impl Refusal {
+    // Its number in document 01.
+    // Two numbers come of a refusal, so neither is its `From`.
+    pub fn number(self) -> u32
+        ensures { result ≡ number_of self }
+    {
+        match self {
+            Refusal::Reach => 1,
+            Refusal::Window => 2,
+            Refusal::Allowance => 3,
+            Refusal::Table => 4,
+            Refusal::Key => 5,
+            Refusal::Length => 6,
+            Refusal::ShortList => 7,
+            Refusal::Step(_) => 8,
+            Refusal::Swaps => 9,
+            Refusal::Tail => 10,
+            Refusal::Start => 11,
+            Refusal::Stack => 12,
+        }
+    }
+
+    // The index of a step that is not allowed, 0 of any other.
+    pub fn index(self) -> usize
+        ensures { result ≡ place_of self }
+    {
+        match self {
+            Refusal::Step(at) => at,
+            _ => 0,
+        }
+    }
+}
+
+// Whether some byte of the list is over the limit. A fold, since `any` branches at each byte.
 pub fn any_over(list: &[u8], limit: u8) -> bool
     ensures { result ≡ any_over limit list.now }
 {
-    limit < greatest(list)
+    list.iter().fold(false, |over, &byte| over | (limit < byte))
 }
 
-// Whether some price is over the limit. All are looked at and counted, so that nothing but the loop branches.
-fn any_price_over(list: &[u32], limit: u32) -> bool
-    requires { length list.now ≤ 255 }
-    ensures { result ≡ any_over limit list.now }
-{
-    let mut n: u32 = 0;
-    let mut i = 0;
-    while i < list.len() {
-        if limit < list[i] {
-            n += 1;
-        }
-        i += 1;
-    }
-    0 < n
-}
-
-// How many bytes of a list of at most 255 are k.
-pub fn count_of(list: &[u8], k: u8) -> u8
-    requires { length list.now ≤ 255 }
+// How many bytes of a list are k.
+pub fn count_of(list: &[u8], k: u8) -> usize
     ensures { result ≡ count_of k list.now }
 {
-    let mut n: u8 = 0;
-    let mut i = 0;
-    while i < list.len() {
-        if list[i] == k {
-            n += 1;
-        }
-        i += 1;
+    let mut n = 0;
+    for &byte in list {
+        n += usize::from(byte == k);
     }
     n
 }
 
 // Refusal 4, of the kinds.
+#[tactic(auto, unfolding(crate::specs::Table::kinds_fault))]
 pub fn kinds_fault(kinds: &[u8]) -> bool
     ensures { result ≡ kinds_fault kinds.now }
 {
-    if kinds.len() != 64 {
-        return true;
-    }
-    if any_over(kinds, 2) {
-        return true;
-    }
-    1 < count_of(kinds, 2)
+    kinds.len() != 64 || any_over(kinds, 2) || 1 < count_of(kinds, u8::from(Kind::Zero))
 }
 
 // Refusal 4, of the prices.
+#[tactic(auto, unfolding(crate::specs::Table::prices_fault))]
 pub fn prices_fault(prices: &[u32]) -> bool
     ensures { result ≡ prices_fault prices.now }
 {
-    if prices.len() != 196 {
-        return true;
-    }
-    any_price_over(prices, 30000)
+    prices.len() != 196
+        || prices
+            .iter()
+            .fold(false, |over, &price| over | (30000 < price))
 }
 
 // The number at a place of the price list, and 0 past its end.
+// One call of the library, as in vectors' `byte`.
 fn price_at(prices: &[u32], i: usize) -> u32
     ensures { result ≡ get_or prices.now i 0 }
 {
-    if i < prices.len() { prices[i] } else { 0 }
+    prices.get(i).copied().unwrap_or(0)
 }
 
 // The place of a step's pair in the price list.
 fn pair_of(step: Step) -> usize
-    ensures { (result ≡ pair_of step) × (result < 290) }
+    ensures { (result ≡ pair_of step) × (result ≤ 289) }
 {
     match step {
         Step::Pop => 0,
@@ -229,11 +248,11 @@ fn pair_of(step: Step) -> usize
     }
 }
 
-// The listed price of what a code stands for.
-pub fn price_of(prices: &[u32], decoded: Decoded) -> Cost
-    ensures { result ≡ price_of prices.now decoded }
+// The listed price of a step; what is no step costs nothing.
+pub fn price_of(prices: &[u32], step: Option<Step>) -> Cost
+    ensures { result ≡ price_of prices.now step }
 {
-    let Decoded::Known(step) = decoded else {
+    let Some(step) = step else {
         return Cost::zero();
     };
     let i = pair_of(step);
@@ -248,31 +267,9 @@ pub fn cost_for_steps(steps: &[u16], prices: &[u32]) -> Cost
     ensures { result ≡ cost_for_steps prices.now steps.now }
 {
     let mut sum = Cost::zero();
-    let mut i = 0;
-    while i < steps.len() {
-        sum = sum.saturating_add(price_of(prices, decode(steps[i])));
-        i += 1;
+    for &code in steps {
+        let price = price_of(prices, Step::try_from(code).ok());
+        sum = sum.saturating_add(price);
     }
     sum
-}
-
-// One row of the refusal table over the rows of higher numbers.
-pub fn row(number: u32, applies: bool, higher: u32) -> u32
-    ensures { result ≡ (number if applies otherwise higher) }
-{
-    if applies { number } else { higher }
-}
-
-// The larger of two numbers.
-pub fn greater(a: usize, b: usize) -> usize
-    ensures { result ≡ max a b }
-{
-    if a < b { b } else { a }
-}
-
-// Whether one of two conditions holds, with both looked at.
-pub fn either(a: bool, b: bool) -> bool
-    ensures { result ≡ (a || b) }
-{
-    if a { true } else { b }
 }

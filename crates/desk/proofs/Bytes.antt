@@ -1,9 +1,8 @@
 -- The desk's answer where the bytes of its input are known: laws of the code.
-use Rattle.std.proofs.Common.{ℕ, zero, suc, ◌≡◌, ◌≤◌, ◌+◌, ◌-◌, List, [], ◌++◌, None, Some, IfSome, true, refl, sym, ap, subst, ◌∙◌, append_assoc, append-nil, take, length, drop, take_at, take_all, length-take, length-drop, arith}
-use Rattle.std.proofs.Math.Seq.{take-add}
+use Rattle.std.proofs.Common.{ℕ, zero, suc, ◌≡◌, ◌-◌, List, [], ◌++◌, None, Some, IfSome, true, refl, sym, ap, subst, ◌∙◌, append_assoc, append-nil, take, length, drop, take_at, take_all, take-append-drop, length-drop, arith}
 use Rattle.std.specs.declared.option.Option.{Option}
-use Rattle.std.specs.Io.KnownBytes.{Appends, Consumes, IsAtEnd}
-use Rattle.std.proofs.KnownBytes.{Consumes-nil, Consumes-trans, Appends-trans}
+use Rattle.std.specs.Io.KnownBytes.{Appends, Consumes, IsAtEnd, Keeps}
+use Rattle.std.proofs.KnownBytes.{Consumes-nil, Consumes-trans, Appends-nil, Appends-trans, Appends-kept}
 use Rattle.desk_text.specs.declared.read.Reader.{Reader}
 use Rattle.desk_text.specs.Noted.{Noted, noted}
 use Rattle.desk_text.specs.Machine.{fresh, fed_all}
@@ -54,22 +53,32 @@ module _ (last : Reader) (list : List ℕ) (n : ℕ) (old out : List ℕ) (g : R
   pub replied_to : (s : Noted) (a b : Option (List ℕ)) (count : ℕ) → Listened s (noted last list) a b → Whole count last true → (count ≡ 0 → IsAtEnd b) → RepliedTo s a n old out
   replied_to s a b count l w z = by_bytes s a b count l.text l.fed l.taken w z
 
--- a write more has taken bytes of what was left
-module _ (text : List ℕ) (done more : ℕ) (h : done ≤ length text) where
-  left : List ℕ
-  left = take (length text - done) (drop done text)
+-- the text is written but for the rest
+pub record Written (a b : Option (List ℕ)) (text rest : List ℕ) : Type 0 where
+  pub front : List ℕ
+  pub parts : text ≡ front ++ rest
+  pub grown : Appends a b front
 
-  left_is : left ≡ drop done text
-  unfolding left
-  left_is = take_all (length text - done) (drop done text) (omega (arith, length-drop done text))
+pub written_none : (a : Option (List ℕ)) (text : List ℕ) → Written a a text text
+written_none a text = record { front = []; parts = refl; grown = Appends-nil a }
 
-  pub written_fits : more ≤ length (take (length text - done) (drop done text)) → done + more ≤ length text
-  written_fits k = omega (arith, k, length-take (length text - done) (drop done text), length-drop done text)
+pub written_more : (a b c : Option (List ℕ)) (text rest : List ℕ) (n m : ℕ) → Written a b text rest → Appends b c (take n rest) → m ≡ length rest - n → Written a c text (take m (drop n rest))
+written_more a b c text rest n m w h e =
+    let t : take m (drop n rest) ≡ drop n rest = take_all m (drop n rest) (omega (arith, length-drop n rest)) in
+    record {
+      front = w.front ++ take n rest;
+      parts = w.parts ∙ rw (t, append_assoc w.front (take n rest) (drop n rest), take-append-drop n rest);
+      grown = Appends-trans a b c w.front (take n rest) w.grown h;
+    }
 
-  pub written_more : (a b c : Option (List ℕ)) → Appends a b (take done text) → Appends b c (take more (take (length text - done) (drop done text))) → Appends a c (take (done + more) text)
-  unfolding left
-  written_more a b c p q =
-      subst (Appends a c) (ap (λ (l : List ℕ). take done text ++ take more l) left_is ∙ sym (take-add done more text)) (Appends-trans a b c _ _ p q)
+pub written_all : (a b : Option (List ℕ)) (text rest : List ℕ) → Written a b text rest → rest ≡ [] → Appends a b text
+written_all a b text rest w e = subst (Appends a b) (sym (w.parts ∙ rw (e, append-nil))) w.grown
+
+pub written_front : (a b : Option (List ℕ)) (text rest : List ℕ) → Written a b text rest → (k : ℕ) × Appends a b (take k text)
+written_front a b text rest w = (length w.front, subst (Appends a b) (sym (ap (take (length w.front)) w.parts ∙ take_at w.front rest (length w.front) refl)) w.grown)
+
+pub written_kept : (a b c : Option (List ℕ)) (text rest : List ℕ) → Written a b text rest → Keeps b c → Written a c text rest
+written_kept a b c text rest w h = record { front = w.front; parts = w.parts; grown = Appends-kept a b c w.front w.grown h }
 
 -- what was printed stands in front
 printed_front : (t old out : List ℕ) (n : ℕ) → (n, out) ≡ printed t old → take n out ≡ t

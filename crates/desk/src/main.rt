@@ -12,31 +12,30 @@
 // input, or behind a failure the first bytes of it (`run`). Tested by tests/desk.c: the same of the system's streams, by their bytes.
 #![tactic(auto)]
 
-ghost use Rattle.std.specs.Prelude.{◌≡◌, ◌<◌, ◌≤◌, ◌↔◌, ℕ, true, IsTrue, IfOk, IfErr, OnOk, OnErr, None, length, take};
+ghost use Rattle.std.specs.Prelude.{◌≡◌, ◌<◌, ◌≤◌, ◌↔◌, ℕ, true, IsTrue, IfOk, IfErr, OnOk, OnErr, length, take};
 ghost use Rattle.std.specs.Io.{ReadsAtMost, WritesAtMost};
 ghost use Rattle.std.specs.Io.KnownBytes.{Appends, Consumes, IsAtEnd, ReadConsumes, WriteAppends};
 ghost use Rattle.std.specs.IoError.{error_kind};
 ghost use Rattle.desk_text.specs.Noted.{noted};
-ghost use Rattle.desk_text.specs.Reader.{Sound, Fed};
+ghost use Rattle.desk_text.specs.Reader.{Fed};
 ghost use Rattle.desk_text.specs.Pieces.{FedPieces};
 ghost use Rattle.desk.specs.Listening.{Whole, Replied};
 ghost use Rattle.desk.specs.Bytes.{Passing, Listened, RepliedTo, Served};
 
 use desk_answer::respond;
 use desk_text::read::{Reader, number_room};
-use std::fmt::InlineText;
+use std::fmt::{self, Display, Formatter, InlineText};
 use std::io::{self, ErrorKind, Read, Write};
 use std::process::ExitCode;
 use std::rt::Clock;
 use std::thread;
 use std::time::Duration;
 
-// A piece of the input: the reader that was fed with it, how many bytes it has, and why reading failed, if it did.
+// A piece of the input: the reader that was fed with it, and how many bytes it has.
 #[derive(Clone, Copy)]
 struct Turn {
     reader: Reader,
     count: usize,
-    failed: Option<io::Error>,
 }
 
 // What the desk could not do, and the system's reason.
@@ -46,29 +45,29 @@ enum Fault {
     Unwritten(io::Error),
 }
 
-// Room for the answer's text.
-fn text_room() -> [u8; 32768]
-    ensures { length result ≡ 32768 }
-{
-    [0; 32768]
+// The text of a system's error without its number.
+fn reason(text: &str) -> &str {
+    text.split_once(" (os error ")
+        .map_or(text, |(words, _)| words)
 }
 
-// Room for a piece of the input.
-fn piece_room() -> [u8; 65536]
-    ensures { length result ≡ 65536 }
-{
-    [0; 65536]
+impl Display for Fault {
+    fn fmt<W: fmt::Write>(&self, f: &mut Formatter<W>) -> fmt::Result {
+        let (what, error) = match *self {
+            Fault::Unread(error) => ("standard input could not be read", error),
+            Fault::Unwritten(error) => ("standard output could not be written", error),
+        };
+        let text = InlineText::<256>::of(error);
+        let why = reason(text.as_str());
+        write!(f, "{what}: {why}")
+    }
 }
 
 // Whether a call that failed is to be tried again: it was interrupted, or it would have waited.
 fn is_passing(error: &io::Error) -> bool
     ensures { IsTrue result ↔ Passing (error_kind error.now) }
 {
-    let kind = error.kind();
-    if kind == ErrorKind::Interrupted {
-        return true;
-    }
-    kind == ErrorKind::WouldBlock
+    matches!(error.kind(), ErrorKind::Interrupted | ErrorKind::WouldBlock)
 }
 
 // Waits a millisecond before the next try.
@@ -92,13 +91,9 @@ fn read_piece<R: Read>(input: &mut R, clock: &impl Clock, piece: &mut [u8]) -> i
     for _ in 0..u64::MAX {
         match input.read(piece) {
             Ok(count) => return Ok(count),
-            Err(error) => {
-                if !is_passing(&error) {
-                    return Err(error);
-                }
-            }
+            Err(error) if is_passing(&error) => pause(clock),
+            Err(error) => return Err(error),
         }
-        pause(clock);
     }
     Err(gave_up())
 }
@@ -110,74 +105,54 @@ fn hear<R: Read>(
     reader: Reader,
     piece: &mut [u8],
     list: &mut [usize],
-) -> Turn
-    requires { Sound (noted reader list.old) }
-    ensures fed { Fed (take result.count piece.new) (noted reader list.old) (noted result.reader list.new) }
-    ensures taken { Consumes (R.remaining input.old) (R.remaining input.new) (take result.count piece.new) }
-    ensures end { result.failed ≡ None → result.count ≡ 0 → 0 < length piece.old → IsAtEnd (R.remaining input.new) }
+) -> io::Result<Turn>
+    requires { length list.old ≡ 192 }
+    ensures fed { IfOk result (λ turn. Fed (take turn.count piece.new) (noted reader list.old) (noted turn.reader list.new)) }
+    ensures taken { IfOk result (λ turn. Consumes (R.remaining input.old) (R.remaining input.new) (take turn.count piece.new)) }
+    ensures end { IfOk result (λ turn. turn.count ≡ 0 → 0 < length piece.old → IsAtEnd (R.remaining input.new)) }
 {
-    let read = read_piece(input, clock, piece);
-    let count = read.unwrap_or(0);
-    let fed = reader.feed(&piece[..count], list);
-    Turn {
-        reader: fed,
-        count,
-        failed: read.err(),
-    }
+    let count = read_piece(input, clock, piece)?;
+    let reader = reader.feed(&piece[..count], list);
+    Ok(Turn { reader, count })
 }
 
 // Whether the input is whole: a read found its end, or whatever follows is passed over.
-fn is_whole(last: Turn) -> bool
-    ensures whole { Whole last.count last.reader result }
-    ensures read { IsTrue result → last.failed ≡ None }
-    ensures end { last.failed ≡ None → last.count ≡ 0 → IsTrue result }
+#[tactic(auto, using(crate::specs::Listening::whole_by))]
+fn is_whole(turn: Turn) -> bool
+    ensures whole { Whole turn.count turn.reader result }
+    ensures end { turn.count ≡ 0 → IsTrue result }
 {
-    if last.failed.is_some() {
-        return false;
-    }
-    if last.count == 0 {
-        return true;
-    }
-    last.reader.is_settled()
+    turn.count == 0 || turn.reader.is_settled()
 }
 
-// Whether there is nothing more to read.
-fn is_over(last: Turn) -> bool {
-    if last.failed.is_some() {
-        return true;
-    }
-    is_whole(last)
-}
-
-// Reads on, piece by piece, until there is nothing more to read; the last piece. The reader was fed with the pieces and with nothing
-// else, in their order. The turns are counted up to a number that no run reaches; if one did, the input would not be whole.
+// Reads on, piece by piece, until the input is whole; the last piece. The reader was fed with the pieces and with nothing else, in
+// their order. The turns are counted up to a number that no run reaches.
+#[tactic(auto, using(desk_text::specs::Feeding::sound_is, desk_text::specs::Pieces::piece_none, desk_text::specs::Pieces::piece_more, crate::proofs::Bytes::listened_none, crate::proofs::Bytes::listened_more))]
 fn listen<R: Read>(
     input: &mut R,
     clock: &impl Clock,
-    reader: Reader,
+    mut reader: Reader,
     piece: &mut [u8],
     list: &mut [usize],
-) -> Turn
-    requires { Sound (noted reader list.old) }
-    ensures fed { FedPieces (noted reader list.old) (noted result.reader list.new) }
-    ensures taken { Listened (noted reader list.old) (noted result.reader list.new) (R.remaining input.old) (R.remaining input.new) }
-    ensures end { result.failed ≡ None → result.count ≡ 0 → 0 < length piece.old → IsAtEnd (R.remaining input.new) }
+) -> io::Result<Turn>
+    requires { length list.old ≡ 192 }
+    ensures fed { IfOk result (λ turn. FedPieces (noted reader list.old) (noted turn.reader list.new)) }
+    ensures taken { IfOk result (λ turn. Listened (noted reader list.old) (noted turn.reader list.new) (R.remaining input.old) (R.remaining input.new)) }
+    ensures whole { IfOk result (λ turn. Whole turn.count turn.reader true) }
+    ensures end { IfOk result (λ turn. turn.count ≡ 0 → 0 < length piece.old → IsAtEnd (R.remaining input.new)) }
 {
-    let mut last = Turn {
-        reader,
-        count: 0,
-        failed: Some(gave_up()),
-    };
     for _ in 0..u64::MAX {
-        last = hear(input, clock, last.reader, piece, list);
-        if is_over(last) {
-            return last;
+        let turn = hear(input, clock, reader, piece, list)?;
+        if is_whole(turn) {
+            return Ok(turn);
         }
+        reader = turn.reader;
     }
-    last
+    Err(gave_up())
 }
 
 // The answer to what was heard before and the input behind it, over the first places of a buffer; how many bytes it is.
+#[tactic(auto, using(crate::specs::Listening::replied_whole, crate::proofs::Bytes::replied_to))]
 fn reply<R: Read>(
     input: &mut R,
     clock: &impl Clock,
@@ -185,16 +160,13 @@ fn reply<R: Read>(
     list: &mut [usize],
     out: &mut [u8],
 ) -> io::Result<usize>
-    requires { Sound (noted reader list.old) × (32768 ≤ length out.old) }
+    requires { (length list.old ≡ 192) × (32768 ≤ length out.old) }
     ensures replied { IfOk result (λ count. Replied (noted reader list.old) true count out.old out.new) }
     ensures known { IfOk result (λ count. RepliedTo (noted reader list.old) (R.remaining input.old) count out.old out.new) }
     ensures err { OnErr result (out.new ≡ out.old) }
 {
-    let mut piece = piece_room();
-    let last = listen(input, clock, reader, &mut piece, list);
-    if !is_whole(last) {
-        return Err(last.failed.unwrap_or(gave_up()));
-    }
+    let mut piece = [0; 65536];
+    let last = listen(input, clock, reader, &mut piece, list)?;
     Ok(respond(last.reader, list, out))
 }
 
@@ -206,61 +178,40 @@ fn put_some<W: Write>(output: &mut W, clock: &impl Clock, text: &[u8]) -> io::Re
 {
     match output.write(text) {
         Ok(0) => Err(io::Error::from(ErrorKind::WriteZero)),
-        Ok(count) => Ok(count),
-        Err(error) => {
-            if is_passing(&error) {
-                pause(clock);
-                return Ok(0);
-            }
-            Err(error)
+        Err(error) if is_passing(&error) => {
+            pause(clock);
+            Ok(0)
         }
+        written => written,
     }
 }
 
 // Writes all of a text, in as many writes as it takes, or fails behind its first bytes. The tries are counted as above.
+#[tactic(auto, using(crate::proofs::Bytes::written_none, crate::proofs::Bytes::written_more, crate::proofs::Bytes::written_all))]
 fn put_all<W: Write>(output: &mut W, clock: &impl Clock, text: &[u8]) -> io::Result<()>
     ensures all { OnOk result (Appends (W.contents output.old) (W.contents output.new) text.now) }
     ensures front { (k : ℕ) × Appends (W.contents output.old) (W.contents output.new) (take k text.now) }
 {
-    let mut done = 0;
+    let mut rest = text;
     for _ in 0..u64::MAX {
-        if text.len() <= done {
+        if rest.is_empty() {
             return Ok(());
         }
-        done += put_some(output, clock, &text[done..])?;
+        let count = put_some(output, clock, rest)?;
+        rest = &rest[count..];
     }
     Err(gave_up())
 }
 
 // Reads the input, and writes the answer.
+#[tactic(auto, using(desk_text::specs::Feeding::new_heard, crate::proofs::Bytes::all_written, crate::proofs::Bytes::front_written))]
 fn run<R: Read, W: Write>(input: &mut R, output: &mut W, clock: &impl Clock) -> Result<(), Fault>
     ensures { Served result (R.remaining input.old) (W.contents output.old) (W.contents output.new) }
 {
     let mut list = number_room();
-    let mut out = text_room();
-    let count = match reply(input, clock, Reader::new(), &mut list, &mut out) {
-        Ok(count) => count,
-        Err(error) => return Err(Fault::Unread(error)),
-    };
-    match put_all(output, clock, &out[..count]) {
-        Ok(()) => Ok(()),
-        Err(error) => Err(Fault::Unwritten(error)),
-    }
-}
-
-// The text of a system's error without its number.
-fn reason(text: &str) -> &str {
-    match text.split_once(" (os error ") {
-        Some((words, _)) => words,
-        None => text,
-    }
-}
-
-// Says a fault on standard error: what could not be done, and why.
-fn complain(rt: &impl Eprint, what: &str, error: io::Error) {
-    let text = InlineText::<256>::of(error);
-    let why = reason(text.as_str());
-    let _ = eprintln!(rt; "desk: {what}: {why}");
+    let mut out = [0; 32768];
+    let count = reply(input, clock, Reader::new(), &mut list, &mut out).map_err(Fault::Unread)?;
+    put_all(output, clock, &out[..count]).map_err(Fault::Unwritten)
 }
 
 fn main(rt: HostRuntime) -> ExitCode {
@@ -268,12 +219,8 @@ fn main(rt: HostRuntime) -> ExitCode {
     let mut output = rt.stdout();
     match run(&mut input, &mut output, &rt) {
         Ok(()) => ExitCode::SUCCESS,
-        Err(Fault::Unread(error)) => {
-            complain(&rt, "standard input could not be read", error);
-            ExitCode::FAILURE
-        }
-        Err(Fault::Unwritten(error)) => {
-            complain(&rt, "standard output could not be written", error);
+        Err(fault) => {
+            let _ = eprintln!(rt; "desk: {fault}");
             ExitCode::FAILURE
         }
     }

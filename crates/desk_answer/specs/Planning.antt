@@ -1,9 +1,9 @@
 -- What the desk asks of the planner: document 01, "The exam desk program".
-use Rattle.std.specs.Prelude.{ℕ, ◌*◌, ◌≤◌, Bool, true, false, ◌≡◌, T, eqb, drop}
+use Rattle.std.specs.Prelude.{ℕ, ◌*◌, ◌≤◌, Bool, true, false, ◌≡◌, T, eqb}
 use mathlib.Core.List.{List}
-use Rattle.std.proofs.Math.Option.{Option, none, some}
+use Rattle.std.specs.Prelude.{Option, None, Some}
 use Rattle.std.proofs.Math.Path.{refl}
-use Rattle.std.proofs.Common.{◌∙◌, eqb→eq, length-append, length-drop, arith}
+use Rattle.std.proofs.Common.{eqb→eq, arith}
 use Rattle.std.proofs.Math.ListN.{length}
 use Rattle.costs.specs.Choice.{◌if◌otherwise◌}
 use Rattle.costs.specs.declared.Cost.{Cost}
@@ -12,7 +12,7 @@ use Rattle.replay.specs.Beneath.{narrowed, alone}
 use Rattle.astar.specs.Planner.{Found}
 use Rattle.planner.specs.declared.Answer.{Answer}
 use Rattle.planner.specs.Refusal.{Asked, Lent, asked, allowances, lent, narrow, plan_refusal}
-use Rattle.planner.specs.Planned.{answered, fields_of, refused, steps_with, given, planned_on, planned_for}
+use Rattle.planner.specs.Planned.{answered, fields_of, refused, given, planned_on, planned_for}
 use Rattle.planner.specs.Accepted.{accepted}
 use Rattle.planner.specs.Sound.{plan_sound}
 use Rattle.planner.specs.Before.{planned_before}
@@ -33,15 +33,6 @@ desk_lent steps = lent steps (8 * 1050) 1050 (4 * 1050)
 unfoldable pub planning : Limits → List ℕ → List ℕ → List ℕ → Answer × List ℕ
 planning l start goal steps = planned_for (desk_question l start goal) (desk_lent (length steps)) steps
 
--- the call with the desk's tables and lists
-pub plan_is : (l : Limits) (start goal steps two kinds prices : List ℕ) (n h o : ℕ) (a : Answer) → kinds ≡ desk_kinds → prices ≡ desk_prices → n ≡ 8400 → h ≡ 1050 → o ≡ 4200 →
-    (a, two) ≡ planned_for
-    (asked (plain_rules l.dup_max l.swap_max l.max_len kinds) prices start goal (allowances l.max_expansions l.states_without l.states_with))
-    (lent (length steps) n h o) steps →
-    (a, two) ≡ planning l start goal steps
-unfolding planning
-plan_is l start goal steps two kinds prices n h o a k p x y z e = rw (k, p, x, y, z) at e
-
 -- old answers remain: the desk has nothing beneath the window (request U3)
 pub planning_before : (l : Limits) (start goal steps : List ℕ) → length start ≤ 1024 →
     planning l start goal steps ≡ planned_on (alone (desk_question l start goal).rules) (desk_question l start goal) (desk_lent (length steps)) steps
@@ -50,14 +41,9 @@ planning_before l start goal steps h = planned_before (desk_question l start goa
 
 -- ---- a plan has room in the step list that was lent
 
-few_steps : (q : Rules) (start : List ℕ) (o : Option (Found Cost ℕ)) (e x n : ℕ) → ((p : Found Cost ℕ) → o ≡ some p → length p.steps ≤ n) → (fields_of q start o e x).step_count ≤ n
-few_steps q start none e x n h = omega arith
-few_steps q start (some p) e x n h = h p refl
-
-same_places : (o : Option (Found Cost ℕ)) (xs : List ℕ) → ((p : Found Cost ℕ) → o ≡ some p → length p.steps ≤ length xs) → length (steps_with o xs) ≡ length xs
-same_places none xs h = refl
-same_places (some p) xs h =
-    length-append p.steps (drop (length p.steps) xs) ∙ omega (arith, length-drop (length p.steps) xs, h p refl)
+few_steps : (q : Rules) (start : List ℕ) (o : Option (Found Cost ℕ)) (e x n : ℕ) → ((p : Found Cost ℕ) → o ≡ Some p → length p.steps ≤ n) → (fields_of q start o e x).step_count ≤ n
+few_steps q start None e x n h = omega arith
+few_steps q start (Some p) e x n h = h p refl
 
 -- what holds of an answer where the test holds, and of a refusal, holds of the choice
 by_choice : (P : Answer × List ℕ → Type 0) (x y : Answer × List ℕ) (b : Bool) → (T b → P x) → P y → P (x if b otherwise y)
@@ -73,7 +59,7 @@ module _ (a : Asked) (l : Lent) where
   not_given xs = (refused (plan_refusal a l), xs)
 
   -- row 7 leaves a place for each step
-  plan_fits : T (eqb (plan_refusal a l) 0) → (p : Found Cost ℕ) → (answered (narrow a)).plan ≡ some p → length p.steps ≤ l.steps
+  plan_fits : T (eqb (plan_refusal a l) 0) → (p : Found Cost ℕ) → (answered (narrow a)).plan ≡ Some p → length p.steps ≤ l.steps
   plan_fits t p f =
       let ok = accepted a l (eqb→eq (plan_refusal a l) 0 t) in
       omega (arith, (plan_sound (narrow a) l ok p f).few, ok.steps)
@@ -85,17 +71,6 @@ module _ (a : Asked) (l : Lent) where
       (λ t. few_steps (narrowed a.rules) a.start (answered (narrow a)).plan (answered (narrow a)).ending (answered (narrow a)).expansions l.steps (plan_fits t))
       (omega arith)
 
-  answer_places : (xs : List ℕ) → l.steps ≡ length xs → length (planned_for a l xs).1 ≡ length xs
-  unfolding planned_on
-  answer_places xs e =
-      by_choice (λ (t : Answer × List ℕ). length t.1 ≡ length xs) (is_given xs) (not_given xs) (eqb (plan_refusal a l) 0)
-      (λ t. same_places (answered (narrow a)).plan xs (λ p f. omega (arith, plan_fits t p f)))
-      refl
-
 pub planned_count : (l : Limits) (start goal steps : List ℕ) → (planning l start goal steps).0.step_count ≤ length steps
 unfolding planning
 planned_count l start goal steps = answer_count (desk_question l start goal) (desk_lent (length steps)) steps
-
-pub planned_length : (l : Limits) (start goal steps : List ℕ) → length (planning l start goal steps).1 ≡ length steps
-unfolding planning
-planned_length l start goal steps = answer_places (desk_question l start goal) (desk_lent (length steps)) steps refl

@@ -4,56 +4,27 @@
 ghost use Rattle.std.specs.Prelude.{◌≡◌, ◌≤◌, length};
 ghost use Rattle.desk_text.specs.Noted.{noted};
 ghost use Rattle.desk_text.specs.Question.{question_of};
-ghost use Rattle.desk_text.specs.Reader.{Sound};
 ghost use Rattle.desk_text.specs.Text.{printed};
 ghost use Rattle.desk_answer.specs.Planning.{planning};
-ghost use Rattle.desk_answer.specs.Desk.{fields_from, said, unreadable, zeros, desk_answer, Responded};
+ghost use Rattle.desk_answer.specs.Desk.{spoken_of, said, zeros, desk_answer, Responded};
 
 use desk_text::print::{Fields, Spoken, print};
-use desk_text::read::{Limits, Reader, Reading, number_room};
+use desk_text::read::{Limits, Reader, number_room};
 use desk_text::tables::{kinds, prices};
 use planner::{Answer, plan};
 
-// Room for the keys of a line.
-fn key_room() -> [u8; 64]
-    ensures { length result ≡ 64 }
-{
-    [0; 64]
-}
+// How many entries the work lists have room for.
+const ENTRIES: usize = 1050;
 
-// Room for the plan: 1,000 steps.
-fn step_room() -> [u16; 1000]
-    ensures { result ≡ zeros }
+// What the desk says of the planner's answer. It is no `From`, since neither type is this crate's own.
+fn spoken(a: Answer) -> Spoken
+    ensures { result ≡ spoken_of a }
 {
-    [0; 1000]
-}
-
-// Room for the nodes: 1,050 entries of eight numbers.
-fn node_room() -> [u64; 8400]
-    ensures { length result ≡ 8400 }
-{
-    [0; 8400]
-}
-
-// Room for the heads: 1,050 entries of one number.
-fn head_room() -> [u64; 1050]
-    ensures { length result ≡ 1050 }
-{
-    [0; 1050]
-}
-
-// Room for the open list: 1,050 entries of four numbers.
-fn open_room() -> [u64; 4200]
-    ensures { length result ≡ 4200 }
-{
-    [0; 4200]
-}
-
-// The planner's fields as they are printed.
-fn fields(a: Answer) -> Fields
-    ensures { result ≡ fields_from a }
-{
-    Fields {
+    // The answers are those that C gets, so a refusal is a number.
+    if a.refusal != 0 {
+        return Spoken::Refused(a.refusal as usize);
+    }
+    Spoken::Plan(Fields {
         found: a.found as usize,
         step_count: a.step_count,
         plan_gas: a.plan_gas as usize,
@@ -64,18 +35,20 @@ fn fields(a: Answer) -> Fields
         ending: a.ending as usize,
         expansions: a.expansions,
         highest: a.highest,
-    }
+    })
 }
 
-// The planner's answer to a question with the desk's tables and work lists.
+// The planner's answer to a question with the desk's tables and work lists: eight numbers to a node, one to a head, four to an open entry.
+#[tactic(auto, using(crate::specs::Planning::planned_count), unfolding(crate::specs::Planning::planning))]
 fn planned(limits: Limits, start: &[u8], goal: &[u8], steps: &mut [u16]) -> Answer
-    ensures { (result, steps.new) ≡ planning limits start.now goal.now steps.old }
+    ensures answer { (result, steps.new) ≡ planning limits start.now goal.now steps.old }
+    ensures room { result.step_count ≤ length steps.old }
 {
     let kinds = kinds();
     let prices = prices();
-    let mut nodes = node_room();
-    let mut heads = head_room();
-    let mut list = open_room();
+    let mut nodes = [0; 8 * ENTRIES];
+    let mut heads = [0; ENTRIES];
+    let mut list = [0; 4 * ENTRIES];
     plan(
         start,
         goal,
@@ -95,53 +68,28 @@ fn planned(limits: Limits, start: &[u8], goal: &[u8], steps: &mut [u16]) -> Answ
     )
 }
 
-// A planning's text.
-fn say(a: Answer, steps: &[u16], out: &mut [u8]) -> usize
-    requires { (a.step_count ≤ length steps.now) × (length steps.now ≤ 1000) × (32768 ≤ length out.old) }
-    ensures { (result, out.new) ≡ printed (said (a, steps.now)) out.old }
-{
-    let count = a.step_count;
-    if a.refusal == 0 {
-        return print(Spoken::Plan(fields(a)), &steps[..count], out);
-    }
-    print(Spoken::Refused(a.refusal as usize), &steps[..count], out)
-}
-
-// The text for input that is no question.
-fn say_unreadable(out: &mut [u8]) -> usize
-    requires { 32768 ≤ length out.old }
-    ensures { (result, out.new) ≡ printed unreadable out.old }
-{
-    let steps = [0u16; 1];
-    print(Spoken::Unreadable, &steps, out)
-}
-
 // The planner's answer to a question, as text.
+#[tactic(auto, unfolding(crate::specs::Desk::zeros))]
 fn ask(limits: Limits, start: &[u8], goal: &[u8], out: &mut [u8]) -> usize
     requires { 32768 ≤ length out.old }
     ensures { (result, out.new) ≡ printed (said (planning limits start.now goal.now zeros)) out.old }
 {
-    let mut steps = step_room();
+    let mut steps = [0; 1000];
     let a = planned(limits, start, goal, &mut steps);
-    say(a, &steps, out)
+    print(spoken(a), &steps[..a.step_count], out)
 }
 
 // What the desk says at the end of its input, over the first places of a buffer; how many bytes it is.
 pub fn respond(reader: Reader, list: &mut [usize], out: &mut [u8]) -> usize
-    requires { Sound (noted reader list.old) × (32768 ≤ length out.old) }
+    requires { (length list.old ≡ 192) × (32768 ≤ length out.old) }
     ensures { Responded (noted reader list.old) out.old result out.new }
 {
-    let mut start = key_room();
-    let mut goal = key_room();
-    let Reading::Question {
-        limits,
-        start: n,
-        goal: m,
-    } = reader.finish(list, &mut start, &mut goal)
-    else {
-        return say_unreadable(out);
-    };
-    ask(limits, &start[..n], &goal[..m], out)
+    let mut start = [0; 64];
+    let mut goal = [0; 64];
+    match reader.finish(list, &mut start, &mut goal) {
+        Some(q) => ask(q.limits, &start[..q.start], &goal[..q.goal], out),
+        None => print(Spoken::Unreadable, &[], out),
+    }
 }
 
 // What the desk says of a whole input.

@@ -4,176 +4,90 @@
 // 1,000 digits `0`. The program writes how many inputs were answered as expected, or the index and the name of the first that was not.
 #![tactic(auto)]
 
-ghost use Rattle.std.specs.Prelude.{◌≡◌, ◌≤◌, length};
+ghost use Rattle.std.specs.Prelude.{◌+◌, ◌<◌, ◌≤◌, length, IfSome};
 
+use arrayvec::ArrayVec;
 use desk_answer::answer;
-use std::io::{self, Read};
+use std::io::{self, Read, Write};
 
-// A case: where its name ends, whether it is whole, whether the answer is the expected one, and the place behind it.
+// A case of the table.
 #[derive(Clone, Copy)]
-struct Case {
-    named: usize,
-    whole: bool,
-    right: bool,
-    next: usize,
+struct Case<'a> {
+    name: &'a [u8],
+    input: &'a [u8],
+    expected: &'a [u8],
 }
 
-// Room for the answer's text.
-fn text_room() -> [u8; 32768]
-    ensures { length result ≡ 32768 }
+// What stands in front of the first bar of a table, and what stands behind it.
+fn field(table: &[u8]) -> Option<(&[u8], &[u8])>
+    ensures { IfSome result (λ parts. length parts.1.now < length table.now) }
 {
-    [0; 32768]
+    let bar = table.iter().position(|&b| b == b'|')?;
+    Some((&table[..bar], &table[bar + 1..]))
 }
 
-// Room for the table, and for a case's input written out.
-fn input_room() -> [u8; 65536]
-    ensures { length result ≡ 65536 }
+// The first case of a table, if it is whole, and what stands behind it.
+fn first_case(table: &[u8]) -> Option<(Case<'_>, &[u8])>
+    ensures { IfSome result (λ parts. length parts.1.now < length table.now) }
 {
-    [0; 65536]
+    let (name, rest) = field(table)?;
+    let (input, rest) = field(rest)?;
+    let (expected, rest) = field(rest)?;
+    Some((
+        Case {
+            name,
+            input,
+            expected,
+        },
+        rest,
+    ))
 }
 
-// The place of the next bar from a place on, or the table's end.
-fn bar(table: &[u8], from: usize) -> usize
-    requires { from ≤ length table.now }
-    ensures { (from ≤ result) × (result ≤ length table.now) }
-{
-    let mut i = from;
-    while i < table.len() {
-        if table[i] == b'|' {
-            return i;
-        }
-        i += 1;
+// A case's input written out, as far as there is room.
+fn written_out(input: &[u8]) -> ArrayVec<u8, 65536> {
+    let mut text = ArrayVec::new();
+    for &b in input {
+        let _ = match b {
+            b'*' => text.write(&[b'0'; 1000]),
+            _ => text.write(&[b]),
+        };
     }
-    i
+    text
 }
 
-// The place behind a bar, or the table's end.
-fn behind(table: &[u8], at: usize) -> usize
-    requires { at ≤ length table.now }
-    ensures { (at ≤ result) × (result ≤ length table.now) }
-{
-    if at < table.len() { at + 1 } else { at }
-}
-
-// A byte at a place of the buffer, if there is room; the place behind.
-fn put_one(text: &mut [u8], at: usize, b: u8) -> usize
-    requires { at ≤ length text.old }
-    ensures { result ≤ length text.new }
-{
-    if text.len() <= at {
-        return at;
-    }
-    text[at] = b;
-    at + 1
-}
-
-// A thousand digits `0`.
-fn put_zeros(text: &mut [u8], at: usize) -> usize
-    requires { at ≤ length text.old }
-    ensures { result ≤ length text.new }
-{
-    let mut next = at;
-    let mut i: usize = 0;
-    while i < 1000 {
-        next = put_one(text, next, b'0');
-        i += 1;
-    }
-    next
-}
-
-// A byte of a case's input written out.
-fn put(text: &mut [u8], at: usize, b: u8) -> usize
-    requires { at ≤ length text.old }
-    ensures { result ≤ length text.new }
-{
-    if b == b'*' {
-        return put_zeros(text, at);
-    }
-    put_one(text, at, b)
-}
-
-// A case's input written out; its length.
-fn write_out(field: &[u8], text: &mut [u8]) -> usize
-    ensures { result ≤ length text.new }
-{
-    let mut next = 0;
-    let mut i = 0;
-    while i < field.len() {
-        next = put(text, next, field[i]);
-        i += 1;
-    }
-    next
-}
-
-// Whether the desk's answer to an input is the expected text.
-fn answered(input: &[u8], expected: &[u8]) -> bool {
-    let mut text = input_room();
-    let n = write_out(input, &mut text);
-    let mut out = text_room();
-    let k = answer(&text[..n], &mut out);
-    &out[..k] == expected
-}
-
-// The case from a place on.
-fn case_at(table: &[u8], from: usize) -> Case
-    requires { from ≤ length table.now }
-    ensures { (from ≤ result.named) × (result.named ≤ length table.now) × (result.named ≤ result.next) × (result.next ≤ length table.now) }
-{
-    let named = bar(table, from);
-    let input = behind(table, named);
-    let middle = bar(table, input);
-    let expected = behind(table, middle);
-    let end = bar(table, expected);
-    let next = behind(table, end);
-    Case {
-        named,
-        whole: end < table.len(),
-        right: answered(&table[input..middle], &table[expected..end]),
-        next,
+impl Case<'_> {
+    // Whether the desk's answer to the input is the expected text.
+    fn is_right(self) -> bool {
+        let text = written_out(self.input);
+        let mut out = [0; 32768];
+        let count = answer(text.as_slice(), &mut out);
+        &out[..count] == self.expected
     }
 }
 
-// Runs the cases of a table; the turns are at most its bytes.
+// Runs the cases of a table.
 fn run(rt: &impl Print, table: &[u8]) -> io::Result<()> {
-    let mut at = 0;
-    let mut count: u64 = 0;
-    let mut turns = table.len();
-    while 0 < turns {
-        let case = case_at(table, at);
-        if !case.whole {
-            return println!(rt; "{count} desk inputs as expected");
-        }
-        if !case.right {
-            let named = case.named;
+    if table.is_empty() {
+        return println!(rt; "no table");
+    }
+    // Cases are cut from the table one by one, so their number is counted.
+    let mut count = 0usize;
+    let mut rest = table;
+    while let Some((case, behind)) = first_case(rest) {
+        if !case.is_right() {
             print!(rt; "differs at index {count}")?;
-            rt.write_all(&table[at..named])?;
+            rt.write_all(case.name)?;
             return println!(rt; "");
         }
-        count = count.wrapping_add(1);
-        at = case.next;
-        turns -= 1;
+        count += 1;
+        rest = behind;
     }
-    println!(rt; "no table")
-}
-
-// Reads until the list is full, the input ends or a read fails, and says how many bytes stand in the list.
-fn read_full<R: Read>(input: &mut R, list: &mut [u8]) -> usize
-    ensures { result ≤ length list.new }
-{
-    let mut done: usize = 0;
-    while done < list.len() {
-        let n = input.read(&mut list[done..]).unwrap_or(0);
-        if n == 0 {
-            break;
-        }
-        done += n;
-    }
-    done
+    println!(rt; "{count} desk inputs as expected")
 }
 
 fn main(rt: HostRuntime) -> io::Result<()> {
-    let mut table = input_room();
-    let mut input = rt.stdin();
-    let n = read_full(&mut input, &mut table);
-    run(&rt, &table[..n])
+    let mut table = ArrayVec::<u8, 65536>::new();
+    // A read that fails ends the table, as its end does.
+    let _ = io::copy(&mut rt.stdin().take(65536), &mut table);
+    run(&rt, table.as_slice())
 }

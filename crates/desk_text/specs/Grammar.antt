@@ -1,7 +1,7 @@
 -- The grammar of the desk's input, bytes to lines, lines to words, words to numbers: document 01, "The exam desk program", from "An empty key
 -- line" on.
 use Rattle.std.specs.Prelude.{ℕ, ◌+◌, ◌*◌, ◌-◌, Bool, true, ◌&&◌, List, [], ◌∷◌, ◌++◌, length, eqb, ltb, leb}
-use Rattle.std.proofs.Math.Option.{Option, none, some}
+use Rattle.std.specs.Prelude.{Option, None, Some}
 use Rattle.costs.specs.Choice.{◌if◌otherwise◌}
 
 -- a line that is not empty ends at the end of the input ("A line ends")
@@ -40,26 +40,26 @@ is_number word = all_digits word && ltb (value_from 0 word) 65537
 
 -- the number that a word is, if it is not empty
 unfoldable pub number_of : List ℕ → Option ℕ
-number_of [] = none
-number_of (b ∷ bs) = some (value_from 0 (b ∷ bs)) if is_number (b ∷ bs) otherwise none
+number_of [] = None
+number_of (b ∷ bs) = Some (value_from 0 (b ∷ bs)) if is_number (b ∷ bs) otherwise None
 
 -- a number in front of numbers, if both are there
 abbrev pub before : Option ℕ → Option (List ℕ) → Option (List ℕ)
-before none ns = none
-before (some n) none = none
-before (some n) (some ns) = some (n ∷ ns)
+before None ns = None
+before (Some n) None = None
+before (Some n) (Some ns) = Some (n ∷ ns)
 
 -- the numbers that the words are, if each is one
 unfoldable pub all_read : List (List ℕ) → Option (List ℕ)
-all_read [] = some []
+all_read [] = Some []
 all_read (w ∷ ws) = before (number_of w) (all_read ws)
 
 -- numbers, if they are at most 64
 abbrev pub few : Option (List ℕ) → Option (List ℕ)
-few none = none
-few (some ns) = some ns if leb (length ns) 64 otherwise none
+few None = None
+few (Some ns) = Some ns if leb (length ns) 64 otherwise None
 
 -- the numbers of a line, if it is readable; an empty line has none ("An empty key line")
 unfoldable pub line_numbers : List ℕ → Option (List ℕ)
-line_numbers [] = some []
+line_numbers [] = Some []
 line_numbers (b ∷ bs) = few (all_read (words_from [] (b ∷ bs)))

@@ -2,6 +2,7 @@ pub mod Grammar
 pub mod Question
 pub mod Passed
 pub mod Words
+pub mod State
 pub mod Noted
 pub mod Machine
 pub mod Reader

@@ -1,8 +1,8 @@
 -- The reader byte by byte: what it holds after a text. `Meaning.antt` proves that its answer is the grammar's question.
 use Rattle.std.specs.Prelude.{ℕ, ◌+◌, ◌*◌, ◌-◌, true, false, List, [], ◌∷◌, eqb, ltb, take, drop, set, replicate}
-use Rattle.std.proofs.Math.Option.{Option, none, some}
+use Rattle.std.specs.Prelude.{Option, None, Some}
 use Rattle.costs.specs.Choice.{◌if◌otherwise◌}
-use Rattle.desk_text.specs.Noted.{Noted}
+use Rattle.desk_text.specs.State.{Noted}
 use Rattle.desk_text.specs.Grammar.{is_digit}
 use Rattle.desk_text.specs.Question.{Asked}
 
@@ -89,5 +89,5 @@ at_end s = fed_byte s 10 if s.begun otherwise s
 -- the question that the numbers make once three lines have ended
 unfoldable pub outcome : Noted → Option Asked
 outcome s =
-    some (record { limits = take 6 s.list; start = take s.starts (drop 64 s.list); goal = take s.count (drop 128 s.list) }) if eqb s.line 3 otherwise
-    none
+    Some (record { limits = take 6 s.list; start = take s.starts (drop 64 s.list); goal = take s.count (drop 128 s.list) }) if eqb s.line 3 otherwise
+    None

@@ -1,7 +1,7 @@
 -- The reader's answer after a text is the grammar's question of that text.
 use Rattle.std.specs.Prelude.{ℕ, ◌<◌, ◌≤◌, Bool, List, [], ◌∷◌, ◌++◌, ◌≡◌, eqb, length, drop}
 use Rattle.std.proofs.Math.Bool.{true, false}
-use Rattle.std.proofs.Math.Option.{Option, none, some}
+use Rattle.std.specs.Prelude.{Option, None, Some}
 use Rattle.std.proofs.Math.Path.{refl}
 use Rattle.std.proofs.Common.{ap, sym, ◌∙◌, lt-ltb, le-ltb, eq-eqb, ne_eqb, eqb-true}
 use native.Mathlib.Omega.{arith}
@@ -21,7 +21,7 @@ use Rattle.desk_text.specs.Parts.{slot, Part, fresh_part, On, still, gone, Ended
 data Next (s : Noted) (f : List (List ℕ) → Option Asked) : Type 0 where
   line_next : (l st : List ℕ) → Part s [] l st [] [] → ((ls : List (List ℕ)) → f ls ≡ from_line s.line l st ls) → Next s f
   all_read_lem : s.line ≡ 3 → ((ls : List (List ℕ)) → f ls ≡ outcome s) → Next s f
-  never : s.line ≡ 4 → ((ls : List (List ℕ)) → f ls ≡ none) → Next s f
+  never : s.line ≡ 4 → ((ls : List (List ℕ)) → f ls ≡ None) → Next s f
 
 -- the reader at the start of a line
 line_start : (s : Noted) (l st : List ℕ) → Sound s → s.line < 3 → s.begun ≡ false → s.count ≡ 0 → s.digits ≡ false → s.value ≡ 0 →
@@ -43,14 +43,14 @@ line_start s l st w a b c d v f g =
     }
 
 -- a line with its numbers
-line_good_first : (l st line ms : List ℕ) (ls : List (List ℕ)) → line_numbers line ≡ some ms → length ms ≡ 6 → from_line 0 l st (line ∷ ls) ≡ from_line 1 ms st ls
+line_good_first : (l st line ms : List ℕ) (ls : List (List ℕ)) → line_numbers line ≡ Some ms → length ms ≡ 6 → from_line 0 l st (line ∷ ls) ≡ from_line 1 ms st ls
 line_good_first l st line ms ls h n = rw (h, n)
 
-line_short_first : (l st line ms : List ℕ) (ls : List (List ℕ)) → line_numbers line ≡ some ms → (length ms ≡ 6 → ⊥) → from_line 0 l st (line ∷ ls) ≡ none
+line_short_first : (l st line ms : List ℕ) (ls : List (List ℕ)) → line_numbers line ≡ Some ms → (length ms ≡ 6 → ⊥) → from_line 0 l st (line ∷ ls) ≡ None
 line_short_first l st line ms ls h n = rw (h, ne_eqb (length ms) 6 n)
 
 -- the line ends
-module _ (s : Noted) (line l st ms : List ℕ) (h : line_numbers line ≡ some ms) (c : length ms ≡ s.count) (w : Sound s) (d : s.digits ≡ false) (v : s.value ≡ 0) where
+module _ (s : Noted) (line l st ms : List ℕ) (h : line_numbers line ≡ Some ms) (c : length ms ≡ s.count) (w : Sound s) (d : s.digits ≡ false) (v : s.value ≡ 0) where
   first_next : s.line ≡ 0 → s.count ≡ 6 → slot s.line s.count s.list ≡ ms → Next (first_closed s) (λ ls. from_line 0 l st (line ∷ ls))
   unfolding first_closed
   first_next e n k =
@@ -121,13 +121,13 @@ module _ (s : Noted) where
   unfolding fed_byte
   past b h = rw (lt-ltb _ _ h)
 
-  lost_none : s.line ≡ 4 → heard s ≡ none
+  lost_none : s.line ≡ 4 → heard s ≡ None
   unfolding heard at_end outcome
   lost_none e =
       let q : fed_byte s 10 ≡ s = past 10 (omega arith) in
       rw q (go s.begun)
     where
-      go : (b : Bool) → outcome (s if b otherwise s) ≡ none
+      go : (b : Bool) → outcome (s if b otherwise s) ≡ None
       go true = rw e
       go false = rw e
 
@@ -141,7 +141,7 @@ module _ (s : Noted) where
       go true = refl
       go false = refl
 
-  early_none : s.line < 3 → outcome s ≡ none
+  early_none : s.line < 3 → outcome s ≡ None
   unfolding outcome
   early_none h = let n : s.line ≡ 3 → ⊥ = omega arith in rw (ne_eqb _ _ n)
 

@@ -1,20 +1,30 @@
 -- What the reader has noted: where it stands, which its functions hand on, and the numbers, which stand in a lent list.
-use Rattle.std.specs.Prelude.{ℕ, Bool, List, ◌≡◌}
+use Rattle.std.specs.Prelude.{ℕ, List, ◌≡◌, is_some, unwrap_or}
+use Rattle.desk_text.specs.declared.read.Line.{Line}
+use Rattle.desk_text.specs.declared.read.Line.TheVariants.{First, Second, Third, Done, Lost}
 use Rattle.desk_text.specs.declared.read.Reader.{Reader}
+pub use Rattle.desk_text.specs.State.{Noted}
 
--- a reader with its numbers; the fields are the struct's
-pub record Noted : Type 0 where
-  pub line : ℕ
-  pub begun : Bool
-  pub digits : Bool
-  pub value : ℕ
-  pub count : ℕ
-  pub starts : ℕ
-  pub list : List ℕ
+-- the line that is read, from 0 on; 3 once three lines have ended, 4 if the input is unreadable whatever follows
+abbrev pub line_of : Line → ℕ
+line_of First = 0
+line_of Second = 1
+line_of Third = 2
+line_of Done = 3
+line_of Lost = 4
 
 -- a reader and the list that it is lent
 abbrev pub noted : Reader → List ℕ → Noted
-noted s list = record { line = s.line; begun = s.begun; digits = s.digits; value = s.value; count = s.count; starts = s.starts; list = list }
+noted s list =
+    record {
+      line = line_of s.line;
+      begun = s.begun;
+      digits = is_some s.word;
+      value = unwrap_or s.word 0;
+      count = s.count;
+      starts = s.starts;
+      list = list;
+    }
 
 -- a reader follows from another by a step that leaves the numbers as they are
 pub record Leaves (step : Noted → Noted) (s r : Reader) : Type 0 where

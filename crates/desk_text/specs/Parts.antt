@@ -2,7 +2,7 @@
 use Rattle.std.specs.Prelude.{ℕ, ◌+◌, ◌*◌, ◌-◌, ◌<◌, ◌≤◌, Bool, true, false, ◌≡◌, eqb, ltb, take, drop, set}
 use Rattle.std.proofs.lemmas.Bool.{false≢true}
 use mathlib.Core.List.{List, [], ◌∷◌, ◌++◌, append_assoc, append-nil}
-use Rattle.std.proofs.Math.Option.{none, some}
+use Rattle.std.specs.Prelude.{None, Some}
 use Rattle.std.proofs.Math.Path.{refl, ap, sym}
 use Rattle.std.proofs.Common.{◌∙◌, add-one, arith, length-drop, take-suc-set, length-take-le}
 use borrow.Author.Tests.{eq-eqb, ne_eqb, ltb-true, ltb-false, eqb-true, eqb-false}
@@ -86,28 +86,28 @@ module _ (s : Noted) (line l st ns w : List ℕ) (p : Part s line l st ns w) whe
   unfolding words_from all_read
   space_words b more e = rw (eq-eqb _ _ e)
 
-  end_words : all_read (words_from w []) ≡ before (number_of w) (some [])
+  end_words : all_read (words_from w []) ≡ before (number_of w) (Some [])
   unfolding words_from all_read
   end_words = refl
 
   -- no word
-  no_number : s.digits ≡ false → number_of w ≡ none
+  no_number : s.digits ≡ false → number_of w ≡ None
   unfolding number_of
   no_number h = rw (full_not w (sym p.has ∙ h))
 
-  number : s.digits ≡ true → number_of w ≡ some s.value
+  number : s.digits ≡ true → number_of w ≡ Some s.value
   number h = word_number w s.value p.word (sym p.has ∙ h)
 
 -- one byte more on the line: the reader is in the longer line, or lost, and the lines from the longer one on are unreadable
 pub data On (s : Noted) (k : ℕ) (line l st : List ℕ) : Type 0 where
   still : (ns w : List ℕ) → Part s line l st ns w → s.line ≡ k → On s k line l st
-  gone : s.line ≡ 4 → ((more : List ℕ) → line_numbers (line ++ more) ≡ none) → On s k line l st
+  gone : s.line ≡ 4 → ((more : List ℕ) → line_numbers (line ++ more) ≡ None) → On s k line l st
 
 -- the word ended: what the line's numbers are if the line ends here
 pub data Ended (s : Noted) (k : ℕ) (line l st : List ℕ) : Type 0 where
-  readable : (ms : List ℕ) → line_numbers line ≡ some ms → slot k s.count s.list ≡ ms → length ms ≡ s.count → Sound s → s.line ≡ k → s.digits ≡ false → s.value ≡ 0 →
+  readable : (ms : List ℕ) → line_numbers line ≡ Some ms → slot k s.count s.list ≡ ms → length ms ≡ s.count → Sound s → s.line ≡ k → s.digits ≡ false → s.value ≡ 0 →
       (1 ≤ k → slot 0 6 s.list ≡ l) → (2 ≤ k → slot 1 s.starts s.list ≡ st) → Ended s k line l st
-  unreadable : line_numbers line ≡ none → s.line ≡ 4 → Ended s k line l st
+  unreadable : line_numbers line ≡ None → s.line ≡ 4 → Ended s k line l st
 
 -- by a test
 pub by : (P : Noted → Type 0) (b : Bool) {x y : Noted} → (b ≡ true → P x) → (b ≡ false → P y) → P (x if b otherwise y)
@@ -202,7 +202,7 @@ module _ (s : Noted) (line l st ns w : List ℕ) (p : Part s line l st ns w) whe
       (λ d. gone lost_line (λ more. byte_line s line l st ns w p b more ∙ rw (digit_words s line l st ns w p b more n, word_strange w s.value p.word b more d)))
 
   -- the line's numbers as they are where it ends with this word
-  end_line : full line ≡ true → line_numbers line ≡ few (join ns (before (number_of w) (some [])))
+  end_line : full line ≡ true → line_numbers line ≡ few (join ns (before (number_of w) (Some [])))
   end_line h =
       line_words line h
       ∙ ap (λ (a : List ℕ). few (all_read (words_from [] a))) (sym (append-nil line))
@@ -223,7 +223,7 @@ module _ (s : Noted) (line l st ns w : List ℕ) (p : Part s line l st ns w) whe
   word_ends h =
       by (λ (r : Noted). Ended r s.line line l st) s.digits
       (λ d. by (λ (r : Noted). Ended r s.line line l st) (eqb s.count 64)
-      (λ f. unreadable (end_line h ∙ rw (number s line l st ns w p d) (many ns s.value (some []) (part_count s line l st ns w p ∙ eqb-true _ _ f))) lost_line)
+      (λ f. unreadable (end_line h ∙ rw (number s line l st ns w p d) (many ns s.value (Some []) (part_count s line l st ns w p ∙ eqb-true _ _ f))) lost_line)
       (λ f. kept_ended h d (eqb-false _ _ f)))
       (λ d. unreadable (end_line h ∙ rw (no_number s line l st ns w p d)) lost_line)
 

@@ -1,12 +1,11 @@
 -- What follows the third line is passed over, and a key line that is read has at most 64 keys.
-use Rattle.std.specs.Prelude.{ℕ, zero, suc, ◌≤◌, Bool, true, false, List, [], ◌∷◌, ◌++◌, map, ◌≡◌, refl, eqb, leb, length, take, drop}
-use Rattle.std.proofs.Math.Option.{Option, none, some}
-use Rattle.std.proofs.Common.{ap, sym, ◌∙◌, arith, leb-true, take_at}
-use Rattle.std.proofs.lemmas.List.{length-map}
+use Rattle.std.specs.Prelude.{ℕ, zero, suc, ◌≤◌, Bool, true, false, List, [], ◌∷◌, ◌++◌, ◌≡◌, refl, eqb, leb, length, take}
+use Rattle.std.specs.Prelude.{Option, None, Some}
+use Rattle.std.proofs.Common.{ap, sym, ◌∙◌, arith, leb-true}
 use Rattle.costs.specs.Choice.{◌if◌otherwise◌}
 use Rattle.costs.specs.Table.{count_of}
 use Rattle.desk_text.specs.Grammar.{lines_from, line_numbers, few, all_read, words_from}
-use Rattle.desk_text.specs.Question.{Asked, six, first_three, all_of, of_three, question_of, key_of, over}
+use Rattle.desk_text.specs.Question.{Asked, six, first_three, all_of, of_three, question_of}
 
 -- as many lines as line feeds are the same whatever follows
 lines_passed : (k : ℕ) (bs : List ℕ) (line more : List ℕ) → k ≤ count_of 10 bs → take k (lines_from line (bs ++ more)) ≡ take k (lines_from line bs)
@@ -38,36 +37,32 @@ passed_over text more n =
     ap of_three (three_only (lines_from [] (text ++ more)) ∙ ap first_three (lines_passed 3 text [] more n) ∙ sym (three_only (lines_from [] text)))
 
 -- numbers that were read of a line are at most 64
-few_most : (o : Option (List ℕ)) (ns : List ℕ) → few o ≡ some ns → length ns ≤ 64
-few_most none ns e = let z : ◌≡◌ {A = ℕ} 0 1 = cc in absurd (omega arith)
-few_most (some ms) ns e = go (leb (length ms) 64) refl e
+few_most : (o : Option (List ℕ)) (ns : List ℕ) → few o ≡ Some ns → length ns ≤ 64
+few_most None ns e = cc
+few_most (Some ms) ns e = go (leb (length ms) 64) refl e
   where
-    go : (t : Bool) → leb (length ms) 64 ≡ t → (some ms if t otherwise none) ≡ some ns → length ns ≤ 64
+    go : (t : Bool) → leb (length ms) 64 ≡ t → (Some ms if t otherwise None) ≡ Some ns → length ns ≤ 64
     go true k f = let q : ms ≡ ns = cc in rw (sym q) (leb-true _ _ k)
-    go false k f = let z : ◌≡◌ {A = ℕ} 0 1 = cc in absurd (omega arith)
+    go false k f = cc
 
-line_most : (line ns : List ℕ) → line_numbers line ≡ some ns → length ns ≤ 64
+line_most : (line ns : List ℕ) → line_numbers line ≡ Some ns → length ns ≤ 64
 unfolding line_numbers
 line_most [] ns e = let q : ns ≡ [] = cc in rw q (omega arith)
 line_most (b ∷ bs) ns e = few_most (all_read (words_from [] (b ∷ bs))) ns e
 
-all_most : (l s g : Option (List ℕ)) (q : Asked) → all_of l s g ≡ some q → (s ≡ some q.start) × (g ≡ some q.goal)
-all_most none s g q e = let z : ◌≡◌ {A = ℕ} 0 1 = cc in absurd (omega arith)
-all_most (some l) none g q e = let z : ◌≡◌ {A = ℕ} 0 1 = cc in absurd (omega arith)
-all_most (some l) (some s) none q e = let z : ◌≡◌ {A = ℕ} 0 1 = cc in absurd (omega arith)
-all_most (some l) (some s) (some g) q e = let f : record { limits = l; start = s; goal = g } ≡ q = cc in (rw (sym f), rw (sym f))
+all_most : (l s g : Option (List ℕ)) (q : Asked) → all_of l s g ≡ Some q → (s ≡ Some q.start) × (g ≡ Some q.goal)
+all_most None s g q e = cc
+all_most (Some l) None g q e = cc
+all_most (Some l) (Some s) None q e = cc
+all_most (Some l) (Some s) (Some g) q e = let f : record { limits = l; start = s; goal = g } ≡ q = cc in (rw (sym f), rw (sym f))
 
 -- a question's keys are at most 64 each
-pub keys_most : (text : List ℕ) (q : Asked) → question_of text ≡ some q → (length q.start ≤ 64) × (length q.goal ≤ 64)
+pub keys_most : (text : List ℕ) (q : Asked) → question_of text ≡ Some q → (length q.start ≤ 64) × (length q.goal ≤ 64)
 unfolding question_of
 keys_most text q e = go (first_three (lines_from [] text)) e
   where
-    go : (o : Option (List ℕ × List ℕ × List ℕ)) → of_three o ≡ some q → (length q.start ≤ 64) × (length q.goal ≤ 64)
-    go none f = let z : ◌≡◌ {A = ℕ} 0 1 = cc in absurd (omega arith)
-    go (some (a, b, c)) f =
+    go : (o : Option (List ℕ × List ℕ × List ℕ)) → of_three o ≡ Some q → (length q.start ≤ 64) × (length q.goal ≤ 64)
+    go None f = cc
+    go (Some (a, b, c)) f =
         let m = all_most (six (line_numbers a)) (line_numbers b) (line_numbers c) q f in
         (line_most b q.start m.0, line_most c q.goal m.1)
-
--- the keys' bytes are read back from the first places
-pub keys_back : (ns old : List ℕ) → take (length ns) (over (map key_of ns) old) ≡ map key_of ns
-keys_back ns old = take_at (map key_of ns) (drop (length (map key_of ns)) old) (length ns) (length-map ns key_of)

@@ -1,10 +1,9 @@
 -- What the desk reads, six limits and two lists of keys, or nothing: document 01, "The exam desk program".
 use Rattle.std.specs.Prelude.{ℕ, List, [], ◌∷◌, ◌++◌, map, eqb, ltb, length, drop, get_or}
-use Rattle.std.proofs.Math.Option.{Option, none, some}
+use Rattle.std.specs.Prelude.{Option, None, Some}
 use Rattle.costs.specs.Choice.{◌if◌otherwise◌}
 use Rattle.desk_text.specs.declared.read.Limits.{Limits}
-use Rattle.desk_text.specs.declared.read.Reading.{Reading}
-use Rattle.desk_text.specs.declared.read.Reading.TheVariants.{Question, Unreadable}
+use Rattle.desk_text.specs.declared.read.Question.{Question}
 use Rattle.desk_text.specs.Grammar.{lines_from, line_numbers}
 
 -- the first line's numbers in their order ("`desk` reads")
@@ -21,8 +20,8 @@ limits_of ns =
 
 -- numbers, if they are six ("A missing line")
 abbrev pub six : Option (List ℕ) → Option (List ℕ)
-six none = none
-six (some ns) = some ns if eqb (length ns) 6 otherwise none
+six None = None
+six (Some ns) = Some ns if eqb (length ns) 6 otherwise None
 
 -- a question as it is read: the first line's numbers, the numbers of the start's line and of the goal's ("`desk` reads")
 pub record Asked : Type 0 where
@@ -32,22 +31,22 @@ pub record Asked : Type 0 where
 
 -- the first three lines, if there are as many ("what follows the third line", "A missing line")
 abbrev pub first_three : List (List ℕ) → Option (List ℕ × List ℕ × List ℕ)
-first_three [] = none
-first_three (a ∷ []) = none
-first_three (a ∷ b ∷ []) = none
-first_three (a ∷ b ∷ c ∷ more) = some (a, b, c)
+first_three [] = None
+first_three (a ∷ []) = None
+first_three (a ∷ b ∷ []) = None
+first_three (a ∷ b ∷ c ∷ more) = Some (a, b, c)
 
 -- the question of three lines' numbers, if each line is readable
 abbrev pub all_of : Option (List ℕ) → Option (List ℕ) → Option (List ℕ) → Option Asked
-all_of none s g = none
-all_of (some l) none g = none
-all_of (some l) (some s) none = none
-all_of (some l) (some s) (some g) = some (record { limits = l; start = s; goal = g })
+all_of None s g = None
+all_of (Some l) None g = None
+all_of (Some l) (Some s) None = None
+all_of (Some l) (Some s) (Some g) = Some (record { limits = l; start = s; goal = g })
 
 -- the question of three lines, the first of six numbers
 abbrev pub of_three : Option (List ℕ × List ℕ × List ℕ) → Option Asked
-of_three none = none
-of_three (some (a, b, c)) = all_of (six (line_numbers a)) (line_numbers b) (line_numbers c)
+of_three None = None
+of_three (Some (a, b, c)) = all_of (six (line_numbers a)) (line_numbers b) (line_numbers c)
 
 -- the question that a text asks; none prints `unreadable`
 unfoldable pub question_of : List ℕ → Option Asked
@@ -62,7 +61,7 @@ abbrev pub over : List ℕ → List ℕ → List ℕ
 over new old = new ++ drop (length new) old
 
 -- what the reader answers, and its two lists of key bytes; on unreadable input no list has changed
-abbrev pub read_into : Option Asked → List ℕ → List ℕ → Reading × List ℕ × List ℕ
-read_into none start goal = (Unreadable, start, goal)
-read_into (some q) start goal =
-    (Question (limits_of q.limits) (length q.start) (length q.goal), over (map key_of q.start) start, over (map key_of q.goal) goal)
+abbrev pub read_into : Option Asked → List ℕ → List ℕ → Option Question × List ℕ × List ℕ
+read_into None start goal = (None, start, goal)
+read_into (Some q) start goal =
+    (Some (record { limits = limits_of q.limits; start = length q.start; goal = length q.goal }), over (map key_of q.start) start, over (map key_of q.goal) goal)

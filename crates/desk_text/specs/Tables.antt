@@ -1,6 +1,5 @@
 -- The desk's kinds and price list: document 01, "The exam desk program".
-use Rattle.std.specs.Prelude.{ℕ, zero, suc, ◌+◌, ◌-◌, ◌/◌, ◌%◌, ◌<◌, ◌≤◌, false, List, [], ◌∷◌, ◌++◌, ◌≡◌, refl, eqb, ltb, length, take, set}
-use Rattle.std.proofs.Common.{ap, sym, ◌∙◌, add-one, arith, length-set, take-suc-set, take_all}
+use Rattle.std.specs.Prelude.{ℕ, zero, suc, ◌-◌, ◌/◌, ◌%◌, false, List, [], ◌∷◌, ◌++◌, ◌≡◌, refl, eqb, ltb}
 use Rattle.costs.specs.Choice.{◌if◌otherwise◌}
 use Rattle.costs.specs.Table.{kinds_fault, prices_fault}
 use Rattle.costs.specs.declared.Cost.{Cost}
@@ -48,24 +47,3 @@ desk_kinds_lem = refl
 pub desk_prices_lem : prices_fault desk_prices ≡ false
 unfolding prices_fault desk_prices table desk_price desk_pair key_price desk_kind
 desk_prices_lem = refl
-
--- the loop that fills a table: the first i values stand at their places
-pub record Filled (f : ℕ → ℕ) (n : ℕ) (list : List ℕ) (i : ℕ) : Type 0 where
-  pub places : length list ≡ n
-  pub within : i ≤ n
-  pub so_far : take i list ≡ table f i
-
-pub fill_start : (f : ℕ → ℕ) (n : ℕ) (list : List ℕ) → length list ≡ n → Filled f n list 0
-unfolding table
-fill_start f n list h = record { places = h; within = omega arith; so_far = refl }
-
-pub fill_more : (f : ℕ → ℕ) (n : ℕ) (list : List ℕ) (i v : ℕ) → Filled f n list i → i < n → v ≡ f i → Filled f n (set list i v) (i + 1)
-unfolding table
-fill_more f n list i v s h e =
-    let k : i < length list = omega (arith, s.places) in
-    record { places = simp length-set s.places; within = omega arith; so_far = rw (add-one i, take-suc-set list i v k, s.so_far, e) }
-
-pub fill_end : (f : ℕ → ℕ) (n : ℕ) (list : List ℕ) (i : ℕ) → Filled f n list i → n ≤ i → list ≡ table f n
-fill_end f n list i s h =
-    let e : i ≡ n = omega (arith, s.within) in
-    sym (take_all i list (omega (arith, s.places))) ∙ s.so_far ∙ ap (table f) e

@@ -3,8 +3,7 @@ use Rattle.std.specs.Prelude.{ℕ, zero, suc, ◌+◌, ◌/◌, ◌%◌, List, [
 use Rattle.costs.specs.Choice.{◌if◌otherwise◌}
 use Rattle.costs.specs.declared.Step.{Step}
 use Rattle.costs.specs.declared.Step.TheVariants.{Pop, Dup, Swap, PushImm, LoadVal}
-use Rattle.costs.specs.declared.Decoded.{Decoded}
-use Rattle.costs.specs.declared.Decoded.TheVariants.{Known, Unknown}
+use Rattle.std.specs.Prelude.{Option, Some, None}
 use Rattle.costs.specs.Step.{decoded}
 use Rattle.desk_text.specs.declared.print.Fields.{Fields}
 use Rattle.desk_text.specs.declared.print.Spoken.{Spoken}
@@ -42,9 +41,9 @@ step_text (PushImm k) = word_line (112 ∷ 117 ∷ 115 ∷ 104 ∷ 32 ∷ []) k
 step_text (LoadVal k) = word_line (108 ∷ 111 ∷ 97 ∷ 100 ∷ 32 ∷ []) k
 
 -- the line of a step's code; a code that stands for no step prints nothing, and a plan has none
-abbrev pub code_text : Decoded → List ℕ
-code_text (Known s) = step_text s
-code_text Unknown = []
+abbrev pub code_text : Option Step → List ℕ
+code_text (Some s) = step_text s
+code_text None = []
 
 -- the steps one a line (as in the example)
 unfoldable pub steps_text : List ℕ → List ℕ

@@ -3,10 +3,10 @@ use Rattle.std.specs.Prelude.{ℕ, ◌+◌, ◌*◌, ◌-◌, ◌<◌, ◌≤◌
 use Rattle.std.proofs.Math.Bool.{true, false}
 use Rattle.std.proofs.lemmas.Bool.{false≢true}
 use mathlib.Core.List.{List, [], ◌∷◌, ◌++◌, append_assoc}
-use Rattle.std.proofs.Math.Option.{Option, none, some}
+use Rattle.std.specs.Prelude.{Option, None, Some}
 use Rattle.std.proofs.Math.Path.{ap}
 use Rattle.std.proofs.Common.{sym, ◌∙◌, arith, length-append}
-use borrow.Author.Tests.{lt-ltb, le-ltb, lt-leb, le-leb, ltb-false, leb-true}
+use borrow.Author.Tests.{lt-ltb, le-ltb, lt-leb, le-leb, ltb-false}
 use Rattle.desk_text.specs.Grammar.{words_from, is_digit, all_digits, value_from, is_number, number_of, before, all_read, few, line_numbers}
 
 digits_more : (w : List ℕ) (b : ℕ) → all_digits (w ++ (b ∷ [])) ≡ (all_digits w && is_digit b)
@@ -27,19 +27,11 @@ unfolding value_from
 value_more v [] b = refl
 value_more v (x ∷ w) b = value_more (v * 10 + (x - 48)) w b
 
-and_left : (x y : Bool) → (x && y) ≡ true → x ≡ true
-and_left true y h = refl
-and_left false y h = h
-
-and_right : (x y : Bool) → (x && y) ≡ true → y ≡ true
-and_right true y h = h
-and_right false y h = absurd (false≢true h)
-
 and_off : (x : Bool) → (x && false) ≡ false
 and_off true = refl
 and_off false = refl
 
-number_bad : (w : List ℕ) → is_number w ≡ false → number_of w ≡ none
+number_bad : (w : List ℕ) → is_number w ≡ false → number_of w ≡ None
 unfolding number_of
 number_bad [] h = refl
 number_bad (b ∷ bs) h = rw h
@@ -60,12 +52,12 @@ bad_more w b h = go (all_digits w) refl
         large_bad (w ++ (b ∷ [])) (rw (value_more 0 w b) (omega arith))
 
 -- bytes behind what is no number make no number
-bad_all : (w bs : List ℕ) → is_number w ≡ false → all_read (words_from w bs) ≡ none
+bad_all : (w bs : List ℕ) → is_number w ≡ false → all_read (words_from w bs) ≡ None
 unfolding words_from all_read
 bad_all w [] h = rw (number_bad w h)
 bad_all w (b ∷ bs) h = go (bad_all (w ++ (b ∷ [])) bs (bad_more w b h)) (eqb b 32) refl
   where
-    go : all_read (words_from (w ++ (b ∷ [])) bs) ≡ none → (t : Bool) → eqb b 32 ≡ t → all_read (words_from w (b ∷ bs)) ≡ none
+    go : all_read (words_from (w ++ (b ∷ [])) bs) ≡ None → (t : Bool) → eqb b 32 ≡ t → all_read (words_from w (b ∷ bs)) ≡ None
     go f true e = rw (e, number_bad w h)
     go f false e = rw e f
 
@@ -97,7 +89,7 @@ unfolding all_digits value_from
 word_empty = record { digits = refl; worth = refl; small = omega arith }
 
 module _ (w : List ℕ) (value : ℕ) (s : Word w value) where
-  word_good : (u : List ℕ) → u ≡ w → full u ≡ true → number_of u ≡ some value
+  word_good : (u : List ℕ) → u ≡ w → full u ≡ true → number_of u ≡ Some value
   unfolding number_of is_number
   word_good [] e f = absurd (false≢true f)
   word_good (b ∷ bs) e f =
@@ -105,16 +97,16 @@ module _ (w : List ℕ) (value : ℕ) (s : Word w value) where
       let v : value_from 0 (b ∷ bs) ≡ value = ap (value_from 0) e ∙ s.worth in
       rw (d, v, lt-ltb _ _ s.small)
 
-  pub word_number : full w ≡ true → number_of w ≡ some value
+  pub word_number : full w ≡ true → number_of w ≡ Some value
   word_number = word_good w refl
 
-  pub word_strange : (b : ℕ) (bs : List ℕ) → is_digit b ≡ false → all_read (words_from (w ++ (b ∷ [])) bs) ≡ none
+  pub word_strange : (b : ℕ) (bs : List ℕ) → is_digit b ≡ false → all_read (words_from (w ++ (b ∷ [])) bs) ≡ None
   unfolding is_number
   word_strange b bs h =
       let n : is_number (w ++ (b ∷ [])) ≡ false = rw (digits_more w b, s.digits, h) in
       bad_all (w ++ (b ∷ [])) bs n
 
-  pub word_large : (b : ℕ) (bs : List ℕ) → 65536 < value * 10 + (b - 48) → all_read (words_from (w ++ (b ∷ [])) bs) ≡ none
+  pub word_large : (b : ℕ) (bs : List ℕ) → 65536 < value * 10 + (b - 48) → all_read (words_from (w ++ (b ∷ [])) bs) ≡ None
   word_large b bs h =
       let k : value_from 0 (w ++ (b ∷ [])) ≡ value * 10 + (b - 48) = rw (value_more 0 w b, s.worth) in
       bad_all (w ++ (b ∷ [])) bs (large_bad _ (omega arith))
@@ -123,43 +115,34 @@ module _ (w : List ℕ) (value : ℕ) (s : Word w value) where
   word_more b h k =
       record { digits = rw (digits_more w b, s.digits, h); worth = rw (value_more 0 w b, s.worth); small = omega arith }
 
--- a digit is a byte from 48 to 57
-pub digit_low : (b : ℕ) → is_digit b ≡ true → 48 ≤ b
-unfolding is_digit
-digit_low b e = leb-true _ _ (and_left (leb 48 b) (leb b 57) e)
-
-pub digit_high : (b : ℕ) → is_digit b ≡ true → b ≤ 57
-unfolding is_digit
-digit_high b e = leb-true _ _ (and_right (leb 48 b) (leb b 57) e)
-
 -- numbers in front of numbers that were read
 abbrev pub join : List ℕ → Option (List ℕ) → Option (List ℕ)
-join ns none = none
-join ns (some ms) = some (ns ++ ms)
+join ns None = None
+join ns (Some ms) = Some (ns ++ ms)
 
 pub join_none : (o : Option (List ℕ)) → o ≡ join [] o
-join_none none = refl
-join_none (some ms) = refl
+join_none None = refl
+join_none (Some ms) = refl
 
-pub join_one : (ns : List ℕ) (v : ℕ) (o : Option (List ℕ)) → join ns (before (some v) o) ≡ join (ns ++ (v ∷ [])) o
-join_one ns v none = refl
-join_one ns v (some ms) = ap some (sym (append_assoc ns (v ∷ []) ms))
+pub join_one : (ns : List ℕ) (v : ℕ) (o : Option (List ℕ)) → join ns (before (Some v) o) ≡ join (ns ++ (v ∷ [])) o
+join_one ns v None = refl
+join_one ns v (Some ms) = ap Some (sym (append_assoc ns (v ∷ []) ms))
 
 pub line_words : (line : List ℕ) → full line ≡ true → line_numbers line ≡ few (all_read (words_from [] line))
 unfolding line_numbers
 line_words [] h = absurd (false≢true h)
 line_words (b ∷ bs) h = refl
 
-pub line_empty : (line : List ℕ) → full line ≡ false → line_numbers line ≡ some []
+pub line_empty : (line : List ℕ) → full line ≡ false → line_numbers line ≡ Some []
 unfolding line_numbers
 line_empty line h = rw (full_not line h)
 
 -- 64 numbers and one more are too many
-pub many : (ns : List ℕ) (v : ℕ) (o : Option (List ℕ)) → length ns ≡ 64 → few (join ns (before (some v) o)) ≡ none
-many ns v none h = refl
-many ns v (some ms) h =
+pub many : (ns : List ℕ) (v : ℕ) (o : Option (List ℕ)) → length ns ≡ 64 → few (join ns (before (Some v) o)) ≡ None
+many ns v None h = refl
+many ns v (Some ms) h =
     let k : leb (length (ns ++ (v ∷ ms))) 64 ≡ false = lt-leb (length (ns ++ (v ∷ ms))) 64 (simp length-append (omega arith)) in
     rw k
 
-pub few_enough : (ns : List ℕ) → length ns ≤ 64 → few (some ns) ≡ some ns
+pub few_enough : (ns : List ℕ) → length ns ≤ 64 → few (Some ns) ≡ Some ns
 few_enough ns h = rw (le-leb (length ns) 64 h)

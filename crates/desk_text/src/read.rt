@@ -1,13 +1,12 @@
 // Reading the desk's input, byte by byte and in pieces of any length.
-ghost use Rattle.std.specs.Prelude.{◌≡◌, ◌+◌, ◌*◌, ◌-◌, ◌<◌, ◌≤◌, map, length, take, drop};
-ghost use Rattle.desk_text.specs.Grammar.{is_digit as Grammar·isDigit};
+ghost use Rattle.std.specs.Prelude.{◌≡◌, ◌==◌, ◌<◌, ◌≤◌, Some, unwrap_or, map, length, take};
+ghost use Rattle.std.specs.List.{prefix_len};
 ghost use Rattle.desk_text.specs.Question.{limits_of, key_of, over, question_of, read_into};
-ghost use Rattle.desk_text.specs.Noted.{noted, Leaves};
-ghost use Rattle.desk_text.specs.Machine.{no_numbers, fresh, lost, kept, word_ended, line_closed, line_fed, digit_fed, fed_byte, at_end};
-ghost use Rattle.desk_text.specs.Reader.{Sound, Fed, Zeros, AtZero, Idle, Settled, Finished};
+ghost use Rattle.std.specs.Option.{ForSome};
+ghost use Rattle.desk_text.specs.Machine.{no_numbers};
 
 // The first line.
-#[derive(Clone, Copy)]
+#[derive(Clone, Copy, PartialEq, Eq)]
 pub struct Limits {
     pub dup_max: usize,
     pub swap_max: usize,
@@ -18,61 +17,55 @@ pub struct Limits {
 }
 
 // What the desk's input asks: the limits and how many keys start and goal have.
-#[derive(Clone, Copy)]
-pub enum Reading {
-    Question {
-        limits: Limits,
-        start: usize,
-        goal: usize,
-    },
-    Unreadable,
+#[derive(Clone, Copy, PartialEq, Eq)]
+pub struct Question {
+    pub limits: Limits,
+    pub start: usize,
+    pub goal: usize,
 }
 
-// Where the reader stands after the bytes read so far. It is handed on at each byte, so it is 16 bytes without a gap; the numbers
-// stand in a list that is lent, 64 places to a line.
+// The line that is read; `Done` once three lines have ended, `Lost` if the input is unreadable whatever follows.
+#[derive(Clone, Copy, PartialEq, Eq)]
+enum Line {
+    First,
+    Second,
+    Third,
+    Done,
+    Lost,
+}
+
+// Where the reader stands after the bytes read so far. It is handed on at each byte, so it is 12 bytes; the numbers stand in a list
+// that is lent, 64 places to a line.
 #[derive(Clone, Copy)]
 pub struct Reader {
-    // The value of the word's digits.
-    value: usize,
-    // The line that is read, from 0 on; 3 once three lines have ended, 4 if the input is unreadable whatever follows.
-    line: u16,
+    // The value of the word's digits, if it has one.
+    word: Option<u32>,
+    // The line that is read.
+    line: Line,
     // How many numbers of the line have ended.
-    count: u16,
+    count: u8,
     // How many numbers the second line had.
-    starts: u16,
+    starts: u8,
     // Whether the line has a byte.
     begun: bool,
-    // Whether the word has a digit.
-    digits: bool,
+    ghost small: { ForSome word (λ value. value < 65537) },
+    ghost within: { count ≤ 64 },
+    ghost starts_within: { starts ≤ 64 },
 }
 
 // Room for the numbers of three lines.
+#[tactic(auto, unfolding(crate::specs::Machine::no_numbers))]
 pub fn number_room() -> [usize; 192]
     ensures { result ≡ no_numbers }
 {
     [0; 192]
 }
 
-// Whether a byte is a decimal digit.
-fn is_digit(b: u8) -> bool
-    ensures { result ≡ Grammar·isDigit b }
-{
-    if b < 48 { false } else { b <= 57 }
-}
-
-// The value of digits with one digit more.
-fn digit_on(value: usize, b: u8) -> usize
-    requires { (value < 65537) × (48 ≤ b) × (b ≤ 57) }
-    ensures { result ≡ value * 10 + (b - 48) }
-{
-    value * 10 + (b - 48) as usize
-}
-
 // The byte of a key.
 pub fn key_byte(n: usize) -> u8
     ensures { result ≡ key_of n }
 {
-    if n < 256 { n as u8 } else { 255 }
+    u8::try_from(n).unwrap_or(255)
 }
 
 // The keys' bytes over the first places of a list.
@@ -80,31 +73,22 @@ fn put_keys(numbers: &[usize], keys: &mut [u8])
     requires { length numbers.now ≤ length keys.old }
     ensures { keys.new ≡ over (map key_of numbers.now) keys.old }
 {
-    let mut i = 0;
-    while i < numbers.len() {
-        keys[i] = key_byte(numbers[i]);
-        i += 1;
+    for (i, &n) in numbers.iter().enumerate() {
+        keys[i] = key_byte(n);
     }
 }
 
-// The place of the first byte from a place on that is no digit `0`, or the piece's end.
-fn zeros_end(piece: &[u8], from: usize) -> usize
-    requires { from ≤ length piece.now }
-    ensures { Zeros piece.now from result }
+// How many digits `0` stand at the front.
+fn leading_zeros(bytes: &[u8]) -> usize
+    ensures zeros { result ≡ prefix_len (λ b. b == 48) bytes.now }
+    ensures within { result ≤ length bytes.now }
 {
-    let mut i = from;
-    while i < piece.len() {
-        if piece[i] != 48 {
-            return i;
-        }
-        i += 1;
-    }
-    i
+    bytes.iter().take_while(|&&b| b == b'0').count()
 }
 
 // The first line's limits in their order.
 fn first_line(list: &[usize]) -> Limits
-    requires { length list.now ≡ 192 }
+    requires { 6 ≤ length list.now }
     ensures { result ≡ limits_of (take 6 list.now) }
 {
     Limits {
@@ -117,221 +101,195 @@ fn first_line(list: &[usize]) -> Limits
     }
 }
 
-// The bytes of so many keys from a place on, over the first places of a list; how many they are.
-fn put_line(list: &[usize], from: usize, count: u16, keys: &mut [u8]) -> usize
-    requires { (from + count ≤ length list.now) × (length list.now ≡ 192) × (count ≤ length keys.old) }
-    ensures value { result ≡ count }
-    ensures keys_after { keys.new ≡ over (map key_of (take count (drop from list.now))) keys.old }
-{
-    let n = count as usize;
-    let end = from + n;
-    put_keys(&list[from..end], keys);
-    n
-}
-
 impl Reader {
+    ghost use Rattle.desk_text.specs.Noted.{line_of, noted, Leaves};
+    ghost use Rattle.desk_text.specs.Machine.{fresh, lost, kept, word_ended, line_closed, line_fed, digit_fed, fed_byte, at_end};
+    ghost use Rattle.desk_text.specs.Reader.{Fed, Idle, Settled, Finished};
+
     // Nothing is read yet.
+    #[tactic(auto, unfolding(crate::specs::Machine::fresh))]
     pub fn new() -> Reader
         ensures { noted result no_numbers ≡ fresh }
     {
         Reader {
-            value: 0,
-            line: 0,
+            word: None,
+            line: Line::First,
             count: 0,
             starts: 0,
             begun: false,
-            digits: false,
         }
     }
 
     // The input is unreadable whatever follows.
+    #[tactic(auto, unfolding(crate::specs::Machine::lost))]
     fn lost(mut self) -> Reader
         ensures { Leaves lost self result }
     {
-        self.line = 4;
+        self.line = Line::Lost;
         self
     }
 
     // The word's value among the line's numbers.
-    fn kept(mut self, list: &mut [usize]) -> Reader
-        requires { Sound (noted self list.old) × (self.line < 3) × (self.count < 64) }
+    #[tactic(auto, unfolding(crate::specs::Machine::kept))]
+    fn kept(mut self, value: u32, list: &mut [usize]) -> Reader
+        requires word { self.word ≡ Some value }
+        requires room { (line_of self.line < 3) × (self.count < 64) × (length list.old ≡ 192) }
         ensures { noted result list.new ≡ kept (noted self list.old) }
     {
-        let at = 64 * self.line as usize + self.count as usize;
-        list[at] = self.value;
-        self.begun = true;
-        self.digits = false;
-        self.value = 0;
+        let at = 64 * self.line as usize + usize::from(self.count);
+        list[at] = value as usize;
+        self.word = None;
         self.count += 1;
+        self.begun = true;
         self
     }
 
     // The word ends.
+    #[tactic(auto, unfolding(crate::specs::Machine::word_ended))]
     fn word_ended(self, list: &mut [usize]) -> Reader
-        requires { Sound (noted self list.old) × (self.line < 3) }
+        requires { (line_of self.line < 3) × (length list.old ≡ 192) }
         ensures { noted result list.new ≡ word_ended (noted self list.old) }
     {
-        if !self.digits {
-            return self.lost();
+        match self.word {
+            Some(value) if self.count < 64 => self.kept(value, list),
+            _ => self.lost(),
         }
-        if self.count == 64 {
-            return self.lost();
-        }
-        self.kept(list)
     }
 
     // The line ends, its last word having ended.
+    #[tactic(auto, unfolding(crate::specs::Machine::line_closed, crate::specs::Machine::first_closed, crate::specs::Machine::second_closed, crate::specs::Machine::third_closed))]
     fn line_closed(mut self) -> Reader
         ensures { Leaves line_closed self result }
     {
-        if self.line == 0 {
-            if self.count == 6 {
-                self.line = 1;
-                self.begun = false;
+        match self.line {
+            Line::First if self.count != 6 => return self.lost(),
+            Line::First => {
+                self.line = Line::Second;
                 self.count = 0;
-                return self;
             }
-            return self.lost();
+            Line::Second => {
+                self.line = Line::Third;
+                self.starts = self.count;
+                self.count = 0;
+            }
+            Line::Third => self.line = Line::Done,
+            Line::Done | Line::Lost => return self,
         }
-        if self.line == 1 {
-            self.line = 2;
-            self.begun = false;
-            self.starts = self.count;
-            self.count = 0;
-            return self;
-        }
-        if self.line == 2 {
-            self.line = 3;
-            self.begun = false;
-            return self;
-        }
+        self.begun = false;
         self
     }
 
     // A line feed.
+    #[tactic(auto, unfolding(crate::specs::Machine::line_fed))]
     fn line_fed(self, list: &mut [usize]) -> Reader
-        requires { Sound (noted self list.old) × (self.line < 3) }
+        requires { (line_of self.line < 3) × (length list.old ≡ 192) }
         ensures { noted result list.new ≡ line_fed (noted self list.old) }
     {
         if self.begun {
-            let ended = self.word_ended(list);
-            return ended.line_closed();
+            return self.word_ended(list).line_closed();
         }
         self.line_closed()
     }
 
-    // A byte that is neither a line feed nor a space.
+    // A digit.
+    #[tactic(auto, unfolding(crate::specs::Machine::digit_fed, crate::specs::Machine::digit_kept, crate::specs::Grammar::is_digit))]
     fn digit_fed(mut self, b: u8) -> Reader
-        requires { self.value < 65537 }
+        requires { (48 ≤ b) × (b ≤ 57) }
         ensures { Leaves (digit_fed b) self result }
     {
-        if !is_digit(b) {
-            return self.lost();
-        }
-        let value = digit_on(self.value, b);
+        let value = 10 * self.word.unwrap_or(0) + u32::from(b - b'0');
         if 65536 < value {
             return self.lost();
         }
+        self.word = Some(value);
         self.begun = true;
-        self.digits = true;
-        self.value = value;
         self
     }
 
     // One byte more.
+    #[tactic(auto, unfolding(crate::specs::Machine::fed_byte, crate::specs::Machine::digit_fed, crate::specs::Grammar::is_digit))]
     fn fed(self, b: u8, list: &mut [usize]) -> Reader
-        requires { Sound (noted self list.old) }
+        requires { length list.old ≡ 192 }
         ensures { noted result list.new ≡ fed_byte (noted self list.old) b }
     {
-        if 2 < self.line {
-            return self;
+        match (self.line, b) {
+            (Line::Done | Line::Lost, _) => self,
+            (_, b'\n') => self.line_fed(list),
+            (_, b' ') => self.word_ended(list),
+            (_, b'0'..=b'9') => self.digit_fed(b),
+            _ => self.lost(),
         }
-        if b == 10 {
-            return self.line_fed(list);
-        }
-        if b == 32 {
-            return self.word_ended(list);
-        }
-        self.digit_fed(b)
     }
 
-    // Whether a digit `0` more changes nothing.
-    fn is_at_zero(self) -> bool
-        ensures { AtZero self result }
+    // What is left of the bytes behind those that change nothing. Only zeros make a readable input long, so they are passed at once.
+    fn past_idle(self, bytes: &[u8]) -> &[u8]
+        ensures { Idle bytes.now self result.now }
     {
-        if !self.begun {
-            return false;
+        if self.begun && self.word == Some(0) {
+            return &bytes[leading_zeros(bytes)..];
         }
-        if !self.digits {
-            return false;
-        }
-        self.value == 0
-    }
-
-    // The place from a place on up to which the bytes change nothing. Only zeros make a readable input long, so they are passed at once.
-    fn idle_end(self, piece: &[u8], from: usize) -> usize
-        requires { from ≤ length piece.now }
-        ensures { Idle piece.now from self result }
-    {
-        if self.is_at_zero() {
-            return zeros_end(piece, from);
-        }
-        from
+        bytes
     }
 
     // A piece of the input more.
+    #[tactic(auto, using(crate::specs::Feeding::sound_is), unfolding(crate::specs::Machine::fed_all))]
     pub fn feed(self, piece: &[u8], list: &mut [usize]) -> Reader
-        requires { Sound (noted self list.old) }
+        requires { length list.old ≡ 192 }
         ensures { Fed piece.now (noted self list.old) (noted result list.new) }
     {
         let mut reader = self;
-        let mut i = 0;
-        while i < piece.len() {
-            reader = reader.fed(piece[i], list);
-            i = reader.idle_end(piece, i + 1);
+        let mut rest = piece;
+        while let Some((&b, behind)) = rest.split_first() {
+            reader = reader.fed(b, list);
+            rest = reader.past_idle(behind);
         }
         reader
     }
 
     // Whether the answer is settled, so that whatever follows is passed over.
+    #[tactic(auto, using(crate::specs::Feeding::passed))]
     pub fn is_settled(self) -> bool
         ensures { Settled self result }
     {
-        2 < self.line
+        matches!(self.line, Line::Done | Line::Lost)
     }
 
     // The end of the input ends a line that is not empty.
+    #[tactic(auto, unfolding(crate::specs::Machine::at_end))]
     fn at_end(self, list: &mut [usize]) -> Reader
-        requires { Sound (noted self list.old) }
+        requires { length list.old ≡ 192 }
         ensures { noted result list.new ≡ at_end (noted self list.old) }
     {
         if self.begun {
-            return self.fed(10, list);
+            self.fed(b'\n', list)
+        } else {
+            self
         }
-        self
     }
 
     // The end of the input: the question that it asked, the keys' bytes over the first places of two lists.
-    pub fn finish(self, list: &mut [usize], start: &mut [u8], goal: &mut [u8]) -> Reading
-        requires { Sound (noted self list.old) × (64 ≤ length start.old) × (64 ≤ length goal.old) }
+    pub fn finish(self, list: &mut [usize], start: &mut [u8], goal: &mut [u8]) -> Option<Question>
+        requires { (length list.old ≡ 192) × (64 ≤ length start.old) × (64 ≤ length goal.old) }
         ensures { Finished (noted self list.old) start.old goal.old result start.new goal.new }
     {
         let reader = self.at_end(list);
-        if reader.line == 3 {
-            let n = put_line(list, 64, reader.starts, start);
-            let m = put_line(list, 128, reader.count, goal);
-            return Reading::Question {
-                limits: first_line(list),
-                start: n,
-                goal: m,
-            };
+        if reader.line != Line::Done {
+            return None;
         }
-        Reading::Unreadable
+        let starts = usize::from(reader.starts);
+        let goals = usize::from(reader.count);
+        put_keys(&list[64..64 + starts], start);
+        put_keys(&list[128..128 + goals], goal);
+        Some(Question {
+            limits: first_line(list),
+            start: starts,
+            goal: goals,
+        })
     }
 }
 
 // The question that a text asks: the keys' bytes over the first places of two lists.
-pub fn read(text: &[u8], start: &mut [u8], goal: &mut [u8]) -> Reading
+pub fn read(text: &[u8], start: &mut [u8], goal: &mut [u8]) -> Option<Question>
     requires { (64 ≤ length start.old) × (64 ≤ length goal.old) }
     ensures { (result, start.new, goal.new) ≡ read_into (question_of text.now) start.old goal.old }
 {

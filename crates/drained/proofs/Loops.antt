@@ -5,14 +5,11 @@ use mathlib.Core.List.{List}
 use Prim.Native.Nat.{ℕ, ◌+◌, ◌-◌, ◌<◌, ◌≤◌}
 use native.Mathlib.Omega.{arith}
 use lib.ListN.{length}
-use Rattle.costs.specs.Packed.{cost_of}
 use Rattle.heap.specs.declared.Entry.{Entry as Numbers}
-use Rattle.window.specs.State.{whole}
 use Rattle.lists.specs.View.{waits, Pushed as HeapPushed, Taken as HeapTaken}
 use Rattle.face.specs.Open.{entry_of, first, Pushed, Taken}
 use Rattle.face.specs.declared.Entry.{Entry}
-use Rattle.face.specs.declared.Least.{Least}
-use Rattle.face.specs.declared.Least.TheVariants.{Is, Empty}
+use Rattle.std.specs.Prelude.{Option, Some, None}
 use Rattle.drained.specs.Agree.{Agree, none_agree, push_agree, take_agree, heads_agree, never_empty}
 
 -- the first i entries are in both
@@ -46,11 +43,8 @@ drain_on xs₀ xs ys s t n h d l p q same = record { upto = let u : n ≤ 40 = d
 
 -- ---- the entries compared
 
-pub numbers_are : (e : Entry) (f g : ℕ) → cost_of f ≡ e.f → cost_of g ≡ e.g → waits (record { f = f; g = g; hi = e.state.hi; lo = e.state.lo }) ≡ entry_of e
-numbers_are e f g p q = λ i. record { f = p i; g = q i; state = whole e.state }
-
-pub no_empty : (xs₀ xs : List ℕ) (s u : List Entry) (n : ℕ) (r : Least) → Draining xs₀ xs s n → 0 < n → Taken s u n r → r ≡ Empty → false ≡ true
+pub no_empty : (xs₀ xs : List ℕ) (s u : List Entry) (n : ℕ) (r : Option Entry) → Draining xs₀ xs s n → 0 < n → Taken s u n r → r ≡ None → false ≡ true
 no_empty xs₀ xs s u n r d l t is = absurd (never_empty s xs n d.agree l u (subst (Taken s u n) is t))
 
-pub no_other : (xs₀ xs ys : List ℕ) (s t u : List Entry) (n : ℕ) (r : Least) (e : Entry) (h : Numbers) (b : Bool) → Draining xs₀ xs s n → 0 < n → Taken s u n r → r ≡ Is e → Taken s t n (first s n) → HeapTaken xs n h ys (n - 1) → (entry_of e ≡ waits h → b ≡ true) → b ≡ false → false ≡ true
+pub no_other : (xs₀ xs ys : List ℕ) (s t u : List Entry) (n : ℕ) (r : Option Entry) (e : Entry) (h : Numbers) (b : Bool) → Draining xs₀ xs s n → 0 < n → Taken s u n r → r ≡ Some e → Taken s t n (first s n) → HeapTaken xs n h ys (n - 1) → (entry_of e ≡ waits h → b ≡ true) → b ≡ false → false ≡ true
 no_other xs₀ xs ys s t u n r e h b d l p is q w same differs = sym differs ∙ same (heads_agree s t xs ys n h d.agree l e u (subst (Taken s u n) is p) q w)

@@ -10,7 +10,7 @@ use Rattle.heap.specs.Heap.{sort}
 use Rattle.lists.specs.View.{waits, queue_of, Piled, Pushed as HeapPushed, Taken as HeapTaken}
 use Rattle.face.specs.Open.{entry_of, queue_in, free, held, least_of, without, first, Pushed, Taken}
 use Rattle.face.specs.declared.Entry.{Entry}
-use Rattle.face.specs.declared.Least.TheVariants.{Is, Empty}
+use Rattle.std.specs.Prelude.{Some, None}
 
 -- n entries in 64 places and in the heap, and one queue of both
 pub record Agree (s : List Entry) (xs : List ℕ) (n : ℕ) : Type 0 where
@@ -53,17 +53,17 @@ module _ (s t : List Entry) (xs ys : List ℕ) (n : ℕ) (h : Numbers) (a : Agre
       tails : {x y : Waiting Cost} {us vs : List (Waiting Cost)} → x ∷ us ≡ y ∷ vs → us ≡ vs
       tails e = cc
 
-  pub heads_agree : (e : Entry) (u : List Entry) → Taken s u n (Is e) → Taken s t n (first s n) → HeapTaken xs n h ys (n - 1) → entry_of e ≡ waits h
-  heads_agree e u r p q = ap entry_of (inside (r.answer ∙ ap (λ (z : Bool). cond z (Is (least_of s n)) Empty) (full s xs n a l))) ∙ heads (both p q)
+  pub heads_agree : (e : Entry) (u : List Entry) → Taken s u n (Some e) → Taken s t n (first s n) → HeapTaken xs n h ys (n - 1) → entry_of e ≡ waits h
+  heads_agree e u r p q = ap entry_of (inside (r.answer ∙ ap (λ (z : Bool). cond z (Some (least_of s n)) None) (full s xs n a l))) ∙ heads (both p q)
     where
-      inside : {x y : Entry} → Is x ≡ Is y → x ≡ y
+      inside : {x y : Entry} → Some x ≡ Some y → x ≡ y
       inside e = cc
 
       heads : {x y : Waiting Cost} {us vs : List (Waiting Cost)} → x ∷ us ≡ y ∷ vs → x ≡ y
       heads e = cc
 
-pub never_empty : (s : List Entry) (xs : List ℕ) (n : ℕ) → Agree s xs n → 0 < n → (u : List Entry) → Taken s u n Empty → ⊥
-never_empty s xs n a l u r = clash (r.answer ∙ ap (λ (z : Bool). cond z (Is (least_of s n)) Empty) (full s xs n a l))
+pub never_empty : (s : List Entry) (xs : List ℕ) (n : ℕ) → Agree s xs n → 0 < n → (u : List Entry) → Taken s u n None → ⊥
+never_empty s xs n a l u r = clash (r.answer ∙ ap (λ (z : Bool). cond z (Some (least_of s n)) None) (full s xs n a l))
   where
-    clash : {x : Entry} → Empty ≡ Is x → ⊥
+    clash : {x : Entry} → None ≡ Some x → ⊥
     clash e = let z : ◌≡◌ {A = ℕ} 0 1 = cc in omega arith

@@ -1,5 +1,5 @@
 -- The least with the last in its place is the queue's head and rest.
-use Rattle.std.specs.Prelude.{◌≡◌, refl, Bool, true, false, cond, ℕ, zero as zeroN, suc, ◌-◌, ◌<◌, ◌≤◌, eqb, length, get_or, set, take}
+use Rattle.std.specs.Prelude.{◌≡◌, Some, None, refl, Bool, true, false, cond, ℕ, zero as zeroN, suc, ◌-◌, ◌<◌, ◌≤◌, eqb, length, get_or, set, take}
 use Rattle.std.proofs.Common.{sym, ◌∙◌, arith, take-take, get_or-take, length-take-le, eqb-true}
 use Rattle.std.proofs.Math.Path.{ap, subst}
 use mathlib.Core.List.{List, [], ◌∷◌, ◌++◌, map}
@@ -15,7 +15,6 @@ use Rattle.astar.specs.Bag.{sorted}
 use Rattle.astar.proofs.Bag.{taken, filled, dropped}
 use Rattle.face.specs.Open.{entry_of, queue_in, no_later, zero, at, least_at, least_of, without, held, Taken, Removed}
 use Rattle.face.specs.declared.Entry.{Entry}
-use Rattle.face.specs.declared.Least.TheVariants.{Is, Empty}
 use Rattle.face.specs.Laws.{least_found, held_in}
 
 -- ---- the entries of the search in the places
@@ -92,11 +91,11 @@ module _ (s : List Entry) (n : ℕ) (some_in : 0 < n) (n-in : n ≤ length s) wh
 
 -- ---- what the functions say
 
-pub took : (s t : List Entry) (n : ℕ) (r : Entry) → held s n ≡ true → Removed s t n r → Taken s t n (Is r)
+pub took : (s t : List Entry) (n : ℕ) (r : Entry) → held s n ≡ true → Removed s t n r → Taken s t n (Some r)
 took s t n r h is =
     let i : (0 < n) × (n ≤ length s) = held_in n (length s) h in
     record {
-      answer = ap Is is.least ∙ sym (ap (λ (b : Bool). cond b (Is (least_of s n)) Empty) h);
+      answer = ap Some is.least ∙ sym (ap (λ (b : Bool). cond b (Some (least_of s n)) None) h);
       list = is.list ∙ sym (ap (λ (b : Bool). cond b (without s n) s) h);
       queue = λ _. queue_take s n i.0 i.1 ∙ ap (λ (l : List Entry). entry_of (least_of s n) ∷ queue_in l (n - 1)) (sym is.list);
     }

@@ -1,5 +1,5 @@
 -- The laws of the face: a push behind the others is the queue's push, and the least with the last in its place is the queue's head and rest (`proofs/Head.antt`).
-use Rattle.std.specs.Prelude.{◌≡◌, refl, Bool, true, false, cond, not, ◌&&◌, ℕ, zero as zeroN, suc, ◌+◌, ◌-◌, ◌<◌, ◌≤◌, eqb, ltb, leb, length, set, take}
+use Rattle.std.specs.Prelude.{◌≡◌, Option, Some, None, refl, Bool, true, false, cond, not, ◌&&◌, ℕ, zero as zeroN, suc, ◌+◌, ◌-◌, ◌<◌, ◌≤◌, eqb, ltb, leb, length, set, take}
 use Rattle.std.proofs.Common.{sym, ◌∙◌, not-suc-le-zero, add-one, arith, take-suc-set, eqb-true, lt-ltb, le-ltb, le-leb, ltb-true, leb-true}
 use Rattle.std.proofs.Math.Path.{ap, subst}
 use mathlib.Core.List.{List, [], ◌∷◌, ◌++◌, map}
@@ -13,8 +13,6 @@ use Rattle.astar.specs.Bag.{sorted}
 use Rattle.astar.proofs.Bag.{before_total, sorted_push}
 use Rattle.face.specs.Open.{entry_of, queue_in, no_later, at, lesser_at, least_from, least_at, least_of, without, free, held, drawn, foremost, Pushed, Taken}
 use Rattle.face.specs.declared.Entry.{Entry}
-use Rattle.face.specs.declared.Least.{Least}
-use Rattle.face.specs.declared.Least.TheVariants.{Is, Empty}
 
 -- ---- a turn of the scan, and its end
 
@@ -127,10 +125,10 @@ held_in n l h = by_first (ltb 0 n) refl h
     by_first true e h = (ltb-true 0 n e, leb-true n l h)
     by_first false e h = absurd (clash h)
 
-pub took_none : (s : List Entry) (n : ℕ) → held s n ≡ false → Taken s s n Empty
+pub took_none : (s : List Entry) (n : ℕ) → held s n ≡ false → Taken s s n None
 took_none s n h =
     record {
-      answer = sym (ap (λ (b : Bool). cond b (Is (least_of s n)) Empty) h);
+      answer = sym (ap (λ (b : Bool). cond b (Some (least_of s n)) None) h);
       list = sym (ap (λ (b : Bool). cond b (without s n) s) h);
       queue = λ some. absurd (clash (sym h ∙ some));
     }
@@ -140,7 +138,7 @@ took_none s n h =
 held_of : (n l : ℕ) → 0 < n → n ≤ l → (ltb 0 n && leb n l) ≡ true
 held_of n l h k = rw (lt-ltb 0 n h, le-leb n l k)
 
-pub head_drawn : (s t : List Entry) (n : ℕ) (r : Least) → 0 < n → n ≤ length s → Taken s t n r → drawn r ≡ foremost (queue_in s n)
+pub head_drawn : (s t : List Entry) (n : ℕ) (r : Option Entry) → 0 < n → n ≤ length s → Taken s t n r → drawn r ≡ foremost (queue_in s n)
 head_drawn s t n r h k is =
     let full : held s n ≡ true = held_of n (length s) h k in
-    ap drawn is.answer ∙ ap (λ (b : Bool). drawn (cond b (Is (least_of s n)) Empty)) full ∙ sym (ap foremost (is.queue full))
+    ap drawn is.answer ∙ ap (λ (b : Bool). drawn (cond b (Some (least_of s n)) None)) full ∙ sym (ap foremost (is.queue full))

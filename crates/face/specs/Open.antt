@@ -1,14 +1,12 @@
 -- The open list as a slice of entries, in the definitions of the search's open list (document 01, "Forms the Rust cannot keep": "then one thin").
 use Rattle.std.specs.Prelude.{◌≡◌, Bool, true, cond, ◌&&◌, List, [], ◌∷◌, map, ℕ, zero as zeroN, suc, ◌+◌, ◌-◌, ltb, leb, length, get_or, set, take}
-use Rattle.std.proofs.Math.Option.{Option, none, some}
+use Rattle.std.specs.Prelude.{Option, None, Some}
 use Rattle.costs.specs.declared.Cost.{Cost}
 use Rattle.window.specs.State.{whole}
 use Rattle.algebra.specs.GasBytes.{gas_bytes}
 use Rattle.astar.specs.Search.{Entry as Waiting, before, push}
 use Rattle.astar.specs.Bag.{sorted}
 use Rattle.face.specs.declared.Entry.{Entry}
-use Rattle.face.specs.declared.Least.{Least}
-use Rattle.face.specs.declared.Least.TheVariants.{Is, Empty}
 
 -- ---- entries and the queue that they stand for
 
@@ -74,19 +72,19 @@ held s n = ltb 0 n && leb n (length s)
 -- `push` on the list s, which is t then: r says whether there was room, and a full list is left as it was
 pub record Pushed (s t : List Entry) (n : ℕ) (e : Entry) (r : Bool) : Type 0 where
   pub answer : r ≡ free s n
-  pub list : t ≡ cond (free s n) (set s n e) s
+  pub list : t ≡ cond (free s n) (stored s n e) s
   pub queue : free s n ≡ true → queue_in t (n + 1) ≡ push gas_bytes (entry_of e) (queue_in s n)
 
 -- the least of the first n, if there is one
-abbrev pub first : List Entry → ℕ → Least
-first s n = cond (held s n) (Is (least_of s n)) Empty
+abbrev pub first : List Entry → ℕ → Option Entry
+first s n = cond (held s n) (Some (least_of s n)) None
 
 -- what is left in the places without it
 abbrev pub left : List Entry → ℕ → List Entry
 left s n = cond (held s n) (without s n) s
 
 -- `take_least` on the list s, which is t then: the head of the queue comes out and its rest stays; where there is none the list is left as it was
-pub record Taken (s t : List Entry) (n : ℕ) (r : Least) : Type 0 where
+pub record Taken (s t : List Entry) (n : ℕ) (r : Option Entry) : Type 0 where
   pub answer : r ≡ first s n
   pub list : t ≡ left s n
   pub queue : held s n ≡ true → queue_in s n ≡ entry_of (least_of s n) ∷ queue_in t (n - 1)
@@ -98,10 +96,10 @@ pub record Removed (s t : List Entry) (n : ℕ) (r : Entry) : Type 0 where
 
 -- ---- the answer and the queue's head, to compare them
 
-abbrev pub drawn : Least → Option (Waiting Cost)
-drawn (Is e) = some (entry_of e)
-drawn Empty = none
+abbrev pub drawn : Option Entry → Option (Waiting Cost)
+drawn (Some e) = Some (entry_of e)
+drawn None = None
 
 abbrev pub foremost : List (Waiting Cost) → Option (Waiting Cost)
-foremost [] = none
-foremost (e ∷ es) = some e
+foremost [] = None
+foremost (e ∷ es) = Some e

@@ -1,7 +1,8 @@
 -- The estimate of the empty window, as a sum over the goal's keys, each once.
-use Rattle.std.specs.Prelude.{ℕ, suc, ◌+◌, ◌-◌, ◌≤◌, ◌<◌, ◌≡◌, refl, List, [], ◌∷◌, ◌++◌, length, get_or, drop}
-use Rattle.std.proofs.Common.{arith, drop_of_length-le, drop-cons, le_refl}
+use Rattle.std.specs.Prelude.{ℕ, ◌+◌, ◌≤◌, ◌<◌, ◌≡◌, refl, List, [], ◌∷◌, ◌++◌, length, get_or, drop}
+use Rattle.std.proofs.Common.{arith, drop_of_length-le}
 use Rattle.costs.specs.Cost.{capped}
+use Rattle.costs.specs.Laws.{drop_turn}
 use Rattle.heuristic.specs.Counts.{count_term}
 
 -- what a key adds with no copy there
@@ -28,18 +29,25 @@ unfolding plain_over
 plain_append f [] ys = omega arith
 plain_append f (x ∷ xs) ys = omega (arith, plain_append f xs ys)
 
--- the loop, from the end of the list
-pub over_begin : (f : ℕ → ℕ) (ks : List ℕ) → 0 ≡ over_keys f (drop (length ks) ks)
+over_fits : (f : ℕ → ℕ) (ks : List ℕ) → over_keys f ks ≤ 4294967295
 unfolding over_keys
-over_begin f ks = rw (drop_of_length-le ks (le_refl (length ks)))
+over_fits f [] = omega arith
+over_fits f (k ∷ ks) = omega arith
 
-pub over_on : (f : ℕ → ℕ) (ks : List ℕ) (i k s t r : ℕ) → 0 < i → i ≤ length ks → k ≡ get_or ks (i - 1) 0 → s ≡ over_keys f (drop i ks) → t ≡ f k → r ≡ capped s t → r ≡ over_keys f (drop (i - 1) ks)
+-- the loop: the sum so far and what is left to add
+pub over_begin : (f : ℕ → ℕ) (ks : List ℕ) → capped 0 (over_keys f ks) ≡ over_keys f ks
+over_begin f ks = omega (arith, over_fits f ks)
+
+pub over_on : (f : ℕ → ℕ) (ks : List ℕ) (i s : ℕ) → i < length ks → capped s (over_keys f (drop i ks)) ≡ over_keys f ks → capped (capped s (f (get_or ks i 0))) (over_keys f (drop (i + 1) ks)) ≡ over_keys f ks
 unfolding over_keys
-over_on f ks i k s t r p l e a b c =
-    let q : suc (i - 1) ≡ i = omega arith in
-    let m : i - 1 < length ks = omega arith in
-    let d : drop (i - 1) ks ≡ k ∷ drop i ks = cc (drop-cons ks (i - 1) 0 m, q, e) in
-    rw (d, ← a, ← b) c
+over_on f ks i s l e =
+    let d : drop i ks ≡ get_or ks i 0 ∷ drop (i + 1) ks = drop_turn ks i l in
+    let h = rw d at e in
+    omega arith
 
-pub over_end : (f : ℕ → ℕ) (ks : List ℕ) (i s : ℕ) → i ≤ 0 → s ≡ over_keys f (drop i ks) → s ≡ over_keys f ks
-over_end f ks i s l e = let z : i ≡ 0 = omega arith in rw z at e
+pub over_end : (f : ℕ → ℕ) (ks : List ℕ) (i s : ℕ) → length ks ≤ i → s ≤ 4294967295 → capped s (over_keys f (drop i ks)) ≡ over_keys f ks → s ≡ over_keys f ks
+unfolding over_keys
+over_end f ks i s l m e =
+    let d : drop i ks ≡ [] = drop_of_length-le ks l in
+    let h = rw d at e in
+    omega arith

@@ -1,8 +1,8 @@
 -- How often each key stands in a list, as a table of 64 numbers.
-use Rattle.std.specs.Prelude.{ℕ, zero, suc, ◌+◌, ◌-◌, ◌*◌, min, ◌≤◌, ◌<◌, ◌≡◌, refl, Bool, true, false, List, [], ◌∷◌, length, get_or, set, drop, replicate, eqb}
-use Rattle.std.proofs.Common.{sym, ap, subst, ◌∙◌, add-one, le_refl, mul-le-mul, drop_of_length-le, length-drop, length-set, get_or-set_same, get_or-set_other, drop-cons}
+use Rattle.std.specs.Prelude.{ℕ, zero, suc, ◌+◌, ◌-◌, min, ◌≤◌, ◌<◌, ◌≡◌, refl, Bool, true, false, List, [], ◌∷◌, ◌++◌, length, get_or, set, take, replicate, eqb}
+use Rattle.std.proofs.Common.{sym, ap, subst, ◌∙◌, add-one, length-set, get_or-set_same, get_or-set_other}
 use native.Mathlib.Omega.{arith}
-use Rattle.std.proofs.lemmas.List.{get_or-replicate}
+use Rattle.std.proofs.lemmas.List.{get_or-replicate, take_more}
 use borrow.Author.Tests.{eq-eqb, ne_eqb, eqb-true, eqb-false, lt-ltb, le-ltb}
 use Rattle.costs.specs.Cost.{capped}
 use Rattle.costs.specs.Choice.{◌if◌otherwise◌}
@@ -68,20 +68,26 @@ sum_same f g (suc n) h =
     let d : f n ≡ g n = h n (omega arith) in
     rw (e, d)
 
--- a list from the end: one key more
-pub count_turn : (table list : List ℕ) (i : ℕ) → 0 < i → i ≤ length list → KeysFit list → Counted table (drop i list) → Counted (set table (get_or list (i - 1) 0) (get_or table (get_or list (i - 1) 0) 0 + 1)) (drop (i - 1) list)
-count_turn table list i p l f c =
-    let b : i - 1 < length list = omega arith in
-    let q : suc (i - 1) ≡ i = omega arith in
-    let c' : Counted table (drop (suc (i - 1)) list) = rw q c in
-    rw (drop-cons list (i - 1) 0 b) (count_more table (drop (suc (i - 1)) list) (get_or list (i - 1) 0) (f (i - 1) b) c')
+-- the place of a key in the list does not matter
+count_of_push : (k x : ℕ) (xs : List ℕ) → count_of k (xs ++ (x ∷ [])) ≡ count_of k (x ∷ xs)
+count_of_push k x [] = refl
+count_of_push k x (y ∷ xs) = go (eqb y k) (eqb x k) (count_of_push k x xs)
+  where
+    go : (b c : Bool) → count_of k (xs ++ (x ∷ [])) ≡ (suc (count_of k xs) if c otherwise count_of k xs) → (suc (count_of k (xs ++ (x ∷ []))) if b otherwise count_of k (xs ++ (x ∷ []))) ≡ (suc (suc (count_of k xs) if b otherwise count_of k xs) if c otherwise (suc (count_of k xs) if b otherwise count_of k xs))
+    go true true h = ap suc h
+    go true false h = ap suc h
+    go false true h = h
+    go false false h = h
 
-pub count_start : (table list : List ℕ) → Counted table [] → Counted table (drop (length list) list)
-count_start table list c = rw (drop_of_length-le list (le_refl (length list))) c
+-- one key more of a list
+pub count_on : (table list : List ℕ) (i : ℕ) → i < length list → get_or list i 0 < 64 → Counted table (take i list) → Counted (set table (get_or list i 0) (get_or table (get_or list i 0) 0 + 1)) (take (i + 1) list)
+count_on table list i l f c =
+    let m = count_more table (take i list) (get_or list i 0) f c in
+    rw (take_more list i 0 l) (record { size = m.size; at = λ k h. m.at k h ∙ sym (count_of_push k (get_or list i 0) (take i list)) })
 
 -- a table's number is small
-pub count_small : (table list : List ℕ) (i k : ℕ) → length list ≤ 21 → k < 64 → Counted table (drop i list) → get_or table k 0 < 255
-count_small table list i k l m c = omega (arith, c.at k m, count_below k (drop i list), length-drop i list)
+pub count_small : (table xs : List ℕ) (k : ℕ) → length xs ≤ 21 → k < 64 → Counted table xs → get_or table k 0 < 255
+count_small table xs k l m c = omega (arith, c.at k m, count_below k xs)
 
 -- ---- the term, case by case
 
@@ -106,34 +112,6 @@ pub sum_turn : (f : ℕ → ℕ) (n : ℕ) → sum_to f (n + 1) ≡ capped (sum_
 unfolding sum_to
 sum_turn f n = rw (add-one n)
 
-pub sum_on : (f : ℕ → ℕ) (n s t r : ℕ) → s ≡ sum_to f n → t ≡ f n → r ≡ capped s t → r ≡ sum_to f (n + 1)
-sum_on f n s t r a b e = e ∙ rw (a, b) (sym (sum_turn f n))
-
-pub product_fits : (a b : ℕ) → a ≤ 4294967295 → b ≤ 4294967295 → a * b ≤ 18446744065119617025
-product_fits a b h k = mul-le-mul h k
-
-pub term_by : (prices : List ℕ) (dup : ℕ) (want : List ℕ) (k pop mat h w r : ℕ) → pop ≡ gas_of prices Pop → mat ≡ gas_of prices (PushImm k) → w ≡ get_or want k 0 → r ≡ term pop dup mat h w → r ≡ count_term prices dup want k h
-unfolding count_term
-term_by prices dup want k pop mat h w r a b d e = rw (← a, ← b, ← d) e
-
-pub count_end : (table list : List ℕ) (i : ℕ) → i ≤ 0 → Counted table (drop i list) → Counted table list
-count_end table list i l c = let z : i ≡ 0 = omega arith in rw z at c
-
-pub count_begin : (table list : List ℕ) (n : ℕ) → n ≡ length list → Counted table [] → Counted table (drop n list)
-count_begin table list n e c = rw e (count_start table list c)
-
--- a turn of the loop, by the key read and the table made
-pub count_on : (table next list : List ℕ) (i x : ℕ) → 0 < i → i ≤ length list → KeysFit list → x ≡ get_or list (i - 1) 0 → next ≡ set table x (get_or table x 0 + 1) → Counted table (drop i list) → Counted next (drop (i - 1) list)
-count_on table next list i x p l f e h c = rw (h, e) (count_turn table list i p l f c)
-
-pub sum_end : (f : ℕ → ℕ) (n m s : ℕ) → n ≤ m → m ≤ n → s ≡ sum_to f n → s ≡ sum_to f m
-sum_end f n m s a b e = let z : m ≡ n = omega arith in rw z e
-
 -- the Rust adds a first copy and the other copies one after the other: sums that stop may be grouped
 pub grouped : (g a b : ℕ) → capped (capped g a) b ≡ capped g (capped a b)
 grouped g a b = omega arith
-
--- a key that is there as often as wanted adds nothing
-pub count_enough : (prices : List ℕ) (dup : ℕ) (want : List ℕ) (k count w : ℕ) → w ≡ get_or want k 0 → count ≡ w → 0 ≡ count_term prices dup want k count
-unfolding count_term
-count_enough prices dup want k count w a e = term_enough (gas_of prices Pop) dup (gas_of prices (PushImm k)) count (get_or want k 0) (e ∙ a)

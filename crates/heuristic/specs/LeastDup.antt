@@ -54,10 +54,6 @@ module _ (prices : List ℕ) (dup_max : ℕ) where
   unfolding gas_in_hand
   next_taken i x g r a b e = rw (add-one i, ← a, ← b) e
 
-  -- after i prices, and i is all of them
-  pub last_taken : (i x : ℕ) → i ≤ dup_max → dup_max ≤ i → x ≡ gas_in_hand prices dup_max i → x ≡ gas_in_hand prices dup_max dup_max
-  last_taken i x a b e = let all : i ≡ dup_max = omega arith in rw all at e
-
   in_hand_fits : (i : ℕ) → gas_in_hand prices dup_max i ≤ 4294967295
   unfolding gas_in_hand
   in_hand_fits zero = omega arith

@@ -1,226 +1,193 @@
 // The heuristic of the search: what is left to pop, to copy and to materialize, key by key.
 #![tactic(auto)]
 
-ghost use Rattle.std.specs.Prelude.{◌≡◌, List, [], ◌∷◌, ℕ, ◌+◌, ◌-◌, ◌<◌, ◌≤◌, min, length, get_or, set};
-ghost use Rattle.costs.specs.declared.Step.{Step};
+ghost use Rattle.std.specs.Prelude.{◌≡◌, List, [], ◌∷◌, ℕ, ◌+◌, ◌-◌, ◌<◌, ◌≤◌, length};
 ghost use Rattle.window.specs.Keys.{keys_of, Window};
-ghost use Rattle.heuristic.specs.Heuristic.{times, gas_of, least_dup, term, sum_to, key_term};
-ghost use Rattle.heuristic.specs.Counts.{Counted, KeysFit, count_term};
-ghost use Rattle.heuristic.specs.Steady.{Changing, Standing};
-ghost use Rattle.heuristic.specs.Bare.{bare_term, over_keys};
+ghost use Rattle.heuristic.specs.Heuristic.{gas_of, least_dup, term};
+ghost use Rattle.heuristic.specs.Counts.{Counted, KeysFit};
+ghost use Rattle.heuristic.specs.Bare.{over_keys};
+ghost use Rattle.heuristic.specs.Weighed.{term_of, bare_of, estimate_of, Stands, Few, Changes};
 ghost use Rattle.heuristic.specs.LeastDup.{gas_in_hand, LeastTaken};
 
-use costs::{Decoded, Step};
+use costs::Step;
 use window::PackedState;
 
-// A number of a table of keys.
-pub fn at(table: &[u8], key: u8) -> u8
-    requires { key < length table.now }
-    ensures { result ≡ get_or table.now key 0 }
-{
-    let k = key as usize;
-    table[k]
+// What the estimates rest on: how often the goal wants each key, the least gas of a Dup, and the prices. The counts are a slice, since they
+// stand in the one `Table` of a question.
+#[derive(Clone, Copy)]
+pub struct Weights<'a> {
+    pub want: &'a [u8],
+    pub dup: u32,
+    pub prices: &'a [u32],
 }
 
-// One more of a key.
-fn more(table: &mut [u8], key: u8)
-    requires { (key < length table.old) × (get_or table.old key 0 < 255) }
-    ensures { table.new ≡ set table.old key (get_or table.old key 0 + 1) }
-{
-    let k = key as usize;
-    table[k] = table[k] + 1;
+// What one copy more of a key does to an estimate.
+#[derive(Clone, Copy)]
+enum Change {
+    Adds(u32),
+    Saves(u32),
 }
 
 // The counts of a list of keys, into a table of zeros.
+#[tactic(auto, using(crate::specs::Counts::count_on))]
 pub fn count_list(list: &[u8], table: &mut [u8])
     requires { KeysFit list.now × (length list.now ≤ 21) × Counted table.old [] }
     ensures { Counted table.new list.now }
 {
-    let mut i = list.len();
-    while 0 < i {
-        i -= 1;
-        more(table, list[i]);
+    for &key in list {
+        table[key as usize] += 1;
     }
 }
 
 // The counts of a window, into a table of zeros.
+#[tactic(auto, using(window::specs::Keys::keys_length))]
 pub fn count_window(state: PackedState, table: &mut [u8])
     requires { Window state × Counted table.old [] }
     ensures { Counted table.new (keys_of state) }
 {
-    let mut i = state.len();
-    while 0 < i {
-        i -= 1;
-        more(table, state.get(i));
-    }
-}
-
-// The product of two numbers, or the greatest u32.
-fn saturating_mul(a: u32, b: u32) -> u32
-    ensures { result ≡ times a b }
-{
-    let p = (a as u64) * (b as u64);
-    if p <= 4294967295 {
-        p as u32
-    } else {
-        4294967295
-    }
-}
-
-fn lesser(a: u32, b: u32) -> u32
-    ensures { result ≡ min a b }
-{
-    if a < b { a } else { b }
+    // In place, with the length beside it: a list that is handed back takes more time.
+    let mut held = [0; 21];
+    let n = state.write(&mut held);
+    count_list(&held[..n], table);
 }
 
 // The gas of a step.
+#[tactic(auto, unfolding(crate::specs::Heuristic::gas_of))]
 fn gas_of(prices: &[u32], step: Step) -> u32
     ensures { result ≡ gas_of prices.now step }
 {
-    let cost = costs::price_of(prices, Decoded::Known(step));
-    cost.gas
+    costs::price_of(prices, Some(step)).gas
 }
 
-// One Dup's price taken: from the number in hand after i prices to that after i + 1. The Dup is dup_max - 1 - i, the deepest not yet taken.
-fn take_dup(prices: &[u32], dup_max: usize, i: usize, in_hand: u32) -> u32
-    requires i_lt_dup_max { (i < dup_max) × (dup_max ≤ 16) }
-    requires in_hand_value { in_hand ≡ gas_in_hand prices.now dup_max i }
-    ensures value { result ≡ gas_in_hand prices.now dup_max (i + 1) }
-    ensures least_taken { LeastTaken prices.now dup_max (i + 1) result }
+// One Dup's price taken, after those of all deeper ones: from the number in hand before it to that after it.
+fn take_dup(prices: &[u32], dup_max: usize, p: usize, in_hand: u32) -> u32
+    requires p_lt_dup_max { (p < dup_max) × (dup_max ≤ 16) }
+    requires in_hand_value { in_hand ≡ gas_in_hand prices.now dup_max (dup_max - 1 - p) }
+    ensures value { result ≡ gas_in_hand prices.now dup_max (dup_max - p) }
+    ensures least_taken { LeastTaken prices.now dup_max (dup_max - p) result }
 {
-    let p = dup_max - 1 - i;
-    lesser(in_hand, gas_of(prices, Step::Dup(p as u8)))
+    in_hand.min(gas_of(prices, Step::Dup(p as u8)))
 }
 
-// The least gas of a Dup: the number in hand after the prices of all Dups below dup_max.
+// The least gas of a Dup: the number in hand after the prices of all Dups below dup_max. A loop, and not the least of a chain: the order is
+// promised (take_dup), and the least alone does not tell it.
+#[tactic(auto, using(crate::specs::LeastDup::all_taken))]
 pub fn least_dup(prices: &[u32], dup_max: usize) -> u32
     requires { dup_max ≤ 16 }
     ensures value { result ≡ gas_in_hand prices.now dup_max dup_max }
     ensures value_2 { result ≡ least_dup prices.now dup_max }
 {
-    let mut in_hand = 4294967295;
-    let mut i = 0;
-    while i < dup_max {
-        in_hand = take_dup(prices, dup_max, i, in_hand);
-        i += 1;
+    let mut in_hand = u32::MAX;
+    for p in (0..dup_max).rev() {
+        in_hand = take_dup(prices, dup_max, p, in_hand);
     }
     in_hand
 }
 
 // What a key adds that is there so often and wanted so often.
+#[tactic(auto, unfolding(crate::specs::Heuristic::term))]
 fn key_term(pop: u32, dup: u32, mat: u32, have: u8, want: u8) -> u32
     ensures { result ≡ term pop dup mat have want }
 {
     if want < have {
-        return saturating_mul(pop, (have - want) as u32);
+        return pop.saturating_mul(u32::from(have - want));
     }
     if have == want {
         return 0;
     }
-    let per = lesser(mat, dup);
+    let per = mat.min(dup);
     if have == 0 {
-        return costs::saturating_add(mat, saturating_mul(per, (want - 1) as u32));
+        return mat.saturating_add(per.saturating_mul(u32::from(want - 1)));
     }
-    saturating_mul(per, (want - have) as u32)
+    per.saturating_mul(u32::from(want - have))
 }
 
-// What a key adds with so many copies there.
-fn count_term(want: &[u8], dup: u32, prices: &[u32], key: u8, count: u8) -> u32
-    requires { key < length want.now }
-    ensures { result ≡ count_term prices.now dup want.now key count }
-{
-    let w = at(want, key);
-    if count == w {
-        return 0;
+// A key is a byte of a lent list, so that it is below 64 is asked.
+impl Weights<'_> {
+    // What a key adds with so many copies there.
+    #[tactic(auto, unfolding(crate::specs::Counts::count_term))]
+    fn count_term(self, key: u8, count: u8) -> u32
+        requires { key < length self.want.now }
+        ensures { result ≡ term_of self.entry key count }
+    {
+        let pop = gas_of(self.prices, Step::Pop);
+        let mat = gas_of(self.prices, Step::PushImm(key));
+        key_term(pop, self.dup, mat, count, self.want[key as usize])
     }
-    let pop = gas_of(prices, Step::Pop);
-    let mat = gas_of(prices, Step::PushImm(key));
-    key_term(pop, dup, mat, count, w)
-}
 
-// An estimate with one key more, of which so many copies are there.
-fn one_more(h: u32, want: &[u8], dup: u32, prices: &[u32], key: u8, old: u8) -> u32
-    requires { Changing prices.now dup h want.now key old (old + 1) }
-    ensures { result + count_term prices.now dup want.now key old ≡ h + count_term prices.now dup want.now key (old + 1) }
-{
-    let w = at(want, key);
-    if w <= old {
-        return h + gas_of(prices, Step::Pop);
+    // What one copy more of a key does to an estimate, of which so many are there.
+    #[tactic(auto, using(crate::specs::Steady::term_pop, crate::specs::Steady::term_mat, crate::specs::Steady::term_per))]
+    fn copy(self, key: u8, count: u8) -> Change
+        requires { Few self key count }
+        ensures { Changes result (term_of self.entry key count) (term_of self.entry key (count + 1)) }
+    {
+        if self.want[key as usize] <= count {
+            return Change::Adds(gas_of(self.prices, Step::Pop));
+        }
+        let mat = gas_of(self.prices, Step::PushImm(key));
+        if count == 0 {
+            return Change::Saves(mat);
+        }
+        Change::Saves(mat.min(self.dup))
     }
-    let mat = gas_of(prices, Step::PushImm(key));
-    if old == 0 {
-        return h - mat;
-    }
-    h - lesser(mat, dup)
-}
 
-// An estimate with one key less, of which one copy more than so many is there.
-fn one_less(h: u32, want: &[u8], dup: u32, prices: &[u32], key: u8, new: u8) -> u32
-    requires { Changing prices.now dup h want.now key (new + 1) new }
-    ensures { result + count_term prices.now dup want.now key (new + 1) ≡ h + count_term prices.now dup want.now key new }
-{
-    let w = at(want, key);
-    if w <= new {
-        return h - gas_of(prices, Step::Pop);
+    // The estimate of a window with one key more, from the window's estimate and counts.
+    pub fn after_push(self, h: u32, have: &[u8], key: u8) -> u32
+        requires { (key < 64) × ((w : List ℕ) × ((goal : List ℕ) × Stands self h have.now w goal × (length w + length goal < 42))) }
+        ensures { (w : List ℕ) → (goal : List ℕ) → Stands self.entry h have.now w goal → length w + length goal < 42 → result ≡ estimate_of self.entry goal (key ∷ w) }
+    {
+        match self.copy(key, have[key as usize]) {
+            Change::Adds(gas) => h + gas,
+            Change::Saves(gas) => h - gas,
+        }
     }
-    let mat = gas_of(prices, Step::PushImm(key));
-    if new == 0 {
-        return h + mat;
+
+    // The estimate of a window without its top key, from the window's estimate and counts.
+    pub fn after_pop(self, h: u32, have: &[u8], key: u8) -> u32
+        requires { (key < 64) × ((w : List ℕ) × ((goal : List ℕ) × Stands self h have.now (key ∷ w) goal)) }
+        ensures { (w : List ℕ) → (goal : List ℕ) → Stands self.entry h have.now (key ∷ w) goal → result ≡ estimate_of self.entry goal w }
+    {
+        match self.copy(key, have[key as usize] - 1) {
+            Change::Adds(gas) => h - gas,
+            Change::Saves(gas) => h + gas,
+        }
     }
-    h + lesser(mat, dup)
-}
 
-// The estimate of a window with one key more, from the window's estimate and counts.
-pub fn after_push(h: u32, have: &[u8], want: &[u8], dup: u32, prices: &[u32], key: u8) -> u32
-    requires { (key < 64) × ((w : List ℕ) × ((goal : List ℕ) × Standing prices.now dup h have.now want.now w goal × (length w + length goal < 42))) }
-    ensures { (w : List ℕ) → (goal : List ℕ) → Standing prices.now dup h have.now want.now w goal → length w + length goal < 42 → result ≡ sum_to (key_term prices.now dup goal (key ∷ w)) 64 }
-{
-    let old = at(have, key);
-    one_more(h, want, dup, prices, key, old)
-}
-
-// The estimate of a window without its top key, from the window's estimate and counts.
-pub fn after_pop(h: u32, have: &[u8], want: &[u8], dup: u32, prices: &[u32], key: u8) -> u32
-    requires { (key < 64) × ((w : List ℕ) × ((goal : List ℕ) × Standing prices.now dup h have.now want.now (key ∷ w) goal)) }
-    ensures { (w : List ℕ) → (goal : List ℕ) → Standing prices.now dup h have.now want.now (key ∷ w) goal → result ≡ sum_to (key_term prices.now dup goal w) 64 }
-{
-    let old = at(have, key);
-    one_less(h, want, dup, prices, key, old - 1)
-}
-
-// What the keys add, in the list each once, with no copy there.
-pub fn bare(keys: &[u8], want: &[u8], dup: u32, prices: &[u32]) -> u32
-    requires { KeysFit keys.now × (length want.now ≡ 64) }
-    ensures { result ≡ over_keys (bare_term prices.now dup want.now) keys.now }
-{
-    let mut sum = 0;
-    let mut i = keys.len();
-    while 0 < i {
-        i -= 1;
-        sum = costs::saturating_add(sum, count_term(want, dup, prices, keys[i], 0));
+    // What the keys add, in the list each once, with no copy there.
+    #[tactic(auto, using(crate::specs::Bare::over_begin))]
+    pub fn bare(self, keys: &[u8]) -> u32
+        requires { KeysFit keys.now × (length self.want.now ≡ 64) }
+        ensures { result ≡ over_keys (bare_of self.entry) keys.now }
+    {
+        let mut sum = 0u32;
+        for &key in keys {
+            sum = sum.saturating_add(self.count_term(key, 0));
+        }
+        sum
     }
-    sum
-}
 
-// The estimate of a window and the counts of its keys, into a table of zeros, from the estimate of the empty window.
-pub fn standing(
-    state: PackedState,
-    base: u32,
-    want: &[u8],
-    dup: u32,
-    prices: &[u32],
-    have: &mut [u8],
-) -> u32
-    requires { Window state × ((goal : List ℕ) × Standing prices.now dup base have.old want.now [] goal × (length goal ≤ 21)) }
-    ensures { (goal : List ℕ) → Standing prices.now dup base have.old want.now [] goal → length goal ≤ 21 → Standing prices.now dup result have.new want.now (keys_of state) goal }
-{
-    let mut h = base;
-    let mut i = state.len();
-    while 0 < i {
-        i -= 1;
-        let key = state.get(i);
-        h = after_push(h, have, want, dup, prices, key);
-        more(have, key);
+    // A key pushed and counted: the estimate with it, from that without it.
+    fn count(self, h: u32, have: &mut [u8], key: u8) -> u32
+        requires { (key < 64) × ((w : List ℕ) × ((goal : List ℕ) × Stands self h have.old w goal × (length w + length goal < 42))) }
+        ensures { (w : List ℕ) → (goal : List ℕ) → Stands self.entry h have.old w goal → length w + length goal < 42 → Stands self.entry result have.new (key ∷ w) goal }
+    {
+        let h = self.after_push(h, have, key);
+        have[key as usize] += 1;
+        h
     }
-    h
+
+    // The estimate of a window and the counts of its keys, into a table of zeros, from the estimate of the empty window.
+    pub fn standing(self, state: PackedState, base: u32, have: &mut [u8]) -> u32
+        requires { Window state × ((goal : List ℕ) × Stands self base have.old [] goal × (length goal ≤ 21)) }
+        ensures { (goal : List ℕ) → Stands self.entry base have.old [] goal → length goal ≤ 21 → Stands self.entry result have.new (keys_of state) goal }
+    {
+        // In place, with the length beside it: a list that is handed back takes more time.
+        let mut held = [0; 21];
+        let n = state.write(&mut held);
+        let mut h = base;
+        for &key in held[..n].iter().rev() {
+            h = self.count(h, have, key);
+        }
+        h
+    }
 }

@@ -4,7 +4,7 @@ use Rattle.std.specs.Prelude.{ℕ, zero, suc, ◌-◌, min, List, [], ◌∷◌,
 use Rattle.costs.specs.Choice.{◌if◌otherwise◌}
 use Rattle.costs.specs.declared.Cost.{Cost}
 use Rattle.costs.specs.declared.Step.TheVariants.{Pop, PushImm}
-use Rattle.costs.specs.declared.Decoded.TheVariants.{Known}
+use Rattle.std.specs.Prelude.{Some}
 use Rattle.costs.specs.Cost.{plus, none}
 use Rattle.costs.specs.Price.{price_of}
 
@@ -24,7 +24,7 @@ common_suffix a b = same_from (min (length a) (length b)) 0 a b
 -- a cost with so many pops more, summed as the Rust does
 unfoldable pub with_pops : List ℕ → ℕ → Cost → Cost
 with_pops prices zero sum = sum
-with_pops prices (suc n) sum = with_pops prices n (plus sum (price_of prices (Known Pop)))
+with_pops prices (suc n) sum = with_pops prices n (plus sum (price_of prices (Some Pop)))
 
 -- the pop price so many times
 abbrev pub pops_cost : List ℕ → ℕ → Cost
@@ -33,7 +33,7 @@ pops_cost prices n = with_pops prices n none
 -- a cost with the prices of keys more, each the price of pushing or loading it
 unfoldable pub with_keys : List ℕ → Cost → List ℕ → Cost
 with_keys prices sum [] = sum
-with_keys prices sum (k ∷ ks) = with_keys prices (plus sum (price_of prices (Known (PushImm k)))) ks
+with_keys prices sum (k ∷ ks) = with_keys prices (plus sum (price_of prices (Some (PushImm k)))) ks
 
 -- the flush cost
 unfoldable pub flush_cost : List ℕ → List ℕ → List ℕ → Cost

@@ -10,7 +10,7 @@ use Rattle.std.proofs.Math.Dec.{eqb}
 use Rattle.costs.specs.Choice.{◌if◌otherwise◌}
 use Rattle.costs.specs.declared.Cost.{Cost}
 use Rattle.costs.specs.declared.Step.TheVariants.{Pop}
-use Rattle.costs.specs.declared.Decoded.TheVariants.{Known}
+use Rattle.std.specs.Prelude.{Some}
 use Rattle.costs.specs.Cost.{plus, none}
 use Rattle.costs.specs.Price.{price_of}
 use Rattle.incumbent.specs.Flush.{bottom_at, same_from, common_suffix, with_pops, pops_cost, with_keys, flush_cost}
@@ -98,30 +98,30 @@ cost x y = record { gas = x; bytes = y }
 
 -- so many pops onto a sum of two u32 numbers
 with_pops_lem : (prices : List ℕ) (n : ℕ) (sum : Cost) → sum.gas ≤ 4294967295 → sum.bytes ≤ 4294967295 →
-    with_pops prices n sum ≡ cost (min (sum.gas + n * (price_of prices (Known Pop)).gas) 4294967295) (min (sum.bytes + n * (price_of prices (Known Pop)).bytes) 4294967295)
+    with_pops prices n sum ≡ cost (min (sum.gas + n * (price_of prices (Some Pop)).gas) 4294967295) (min (sum.bytes + n * (price_of prices (Some Pop)).bytes) 4294967295)
 unfolding with_pops plus
 with_pops_lem prices zero sum g h =
-    let p : Cost = price_of prices (Known Pop) in
+    let p : Cost = price_of prices (Some Pop) in
     let x : sum.gas ≡ min (sum.gas + 0 * p.gas) 4294967295 = omega (arith, zero-mul p.gas) in
     let y : sum.bytes ≡ min (sum.bytes + 0 * p.bytes) 4294967295 = omega (arith, zero-mul p.bytes) in
     ap₂ cost x y
 with_pops_lem prices (suc n) sum g h =
-    let p : Cost = price_of prices (Known Pop) in
+    let p : Cost = price_of prices (Some Pop) in
     let x : min (min (sum.gas + p.gas) 4294967295 + n * p.gas) 4294967295 ≡ min (sum.gas + suc n * p.gas) 4294967295 = omega (arith, suc-mul n p.gas) in
     let y : min (min (sum.bytes + p.bytes) 4294967295 + n * p.bytes) 4294967295 ≡ min (sum.bytes + suc n * p.bytes) 4294967295 = omega (arith, suc-mul n p.bytes) in
     with_pops_lem prices n (plus sum p) (omega arith) (omega arith) ∙ ap₂ cost x y
 
 -- so many pops cost the price of one that many times
-pub pops_product : (prices : List ℕ) (n : ℕ) → pops_cost prices n ≡ times n (price_of prices (Known Pop))
+pub pops_product : (prices : List ℕ) (n : ℕ) → pops_cost prices n ≡ times n (price_of prices (Some Pop))
 pops_product prices n =
-    let p : Cost = price_of prices (Known Pop) in
+    let p : Cost = price_of prices (Some Pop) in
     let x : min (0 + n * p.gas) 4294967295 ≡ min (n * p.gas) 4294967295 = omega arith in
     let y : min (0 + n * p.bytes) 4294967295 ≡ min (n * p.bytes) 4294967295 = omega arith in
     with_pops_lem prices n none (omega arith) (omega arith) ∙ ap₂ cost x y
 
 -- the flush cost, with its pops as a product (document 01, "The flush cost is")
 pub flush_product : (prices start goal : List ℕ) →
-    flush_cost prices start goal ≡ with_keys prices (times (length start - common_suffix start goal) (price_of prices (Known Pop))) (take (length goal - common_suffix start goal) goal)
+    flush_cost prices start goal ≡ with_keys prices (times (length start - common_suffix start goal) (price_of prices (Some Pop))) (take (length goal - common_suffix start goal) goal)
 unfolding flush_cost
 flush_product prices start goal =
     ap (λ (c : Cost). with_keys prices c (take (length goal - common_suffix start goal) goal)) (pops_product prices (length start - common_suffix start goal))

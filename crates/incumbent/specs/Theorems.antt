@@ -1,7 +1,7 @@
 -- What the plan in hand is worth.
 use Rattle.std.specs.Prelude.{ℕ, ◌≤◌, ◌<◌, false, List, [], ◌⊎◌, ◌≡◌, length}
 use Rattle.std.proofs.Common.{inl, inr, ap}
-use Rattle.std.proofs.Math.Option.{Option, none, some}
+use Rattle.std.specs.Prelude.{Option, None, Some}
 use Rattle.std.proofs.Math.Path.{refl}
 use native.Mathlib.Omega.{arith}
 use Rattle.costs.specs.Cost.{no_more}
@@ -43,21 +43,21 @@ module _ (prices : List ℕ) (q : Rules) (start goal : List ℕ) where
 
   -- what a builder gives, if anything
   abbrev pub Given : Option (List ℕ) → Type 0
-  Given none = Unit {0}
-  Given (some plan) = Leads plan
+  Given None = Unit {0}
+  Given (Some plan) = Leads plan
 
   offered_sound : (origin : ℕ) → (0 < origin) × (origin ≤ 2) → (o : Option (List ℕ)) (h : Held) → Given o → Sound h → Sound (offered prices origin o h)
-  offered_sound origin n none h l s = s
-  offered_sound origin n (some plan) h l s = by_test Sound (no_more (cost_for_steps prices plan) h.bound) _ _ (λ e. inr (record { origin = n; leads = l; bound = refl })) (λ e. s)
+  offered_sound origin n None h l s = s
+  offered_sound origin n (Some plan) h l s = by_test Sound (no_more (cost_for_steps prices plan) h.bound) _ _ (λ e. inr (record { origin = n; leads = l; bound = refl })) (λ e. s)
 
   given_of : (o : Option Draft) → If (Plan q start goal) o → Given (steps_of o)
-  given_of none h = tt
-  given_of (some p) h = record { replays = h.replays; few = omega (arith, h.few) }
+  given_of None h = tt
+  given_of (Some p) h = record { replays = h.replays; few = omega (arith, h.few) }
 
   tail_given : Window start → Window goal → Given (tail_plan q.swap_max start goal)
   unfolding tail_plan
   tail_given s g =
-      by_test Given (not_tail q.swap_max start goal) none (some (delete_tail start goal)) (λ e. tt)
+      by_test Given (not_tail q.swap_max start goal) None (Some (delete_tail start goal)) (λ e. tt)
       (λ e.
       let t : IsTail q.swap_max start goal = tail_fits q.swap_max start goal e s.short g.keys in
       record { replays = delete_tail_replays q start goal t; few = omega (arith, delete_tail_few q.swap_max start goal t) })

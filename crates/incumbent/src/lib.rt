@@ -1,172 +1,150 @@
 // The bound before the search: the flush cost, and the builders' plans.
 #![tactic(auto)]
 
-ghost use Rattle.std.specs.Prelude.{◌≡◌, ◌+◌, ◌-◌, ◌<◌, ◌≤◌, min, length, take};
-ghost use Rattle.costs.specs.Table.{kinds_fault};
-ghost use Rattle.replay.specs.Machine.{ruled};
+ghost use Rattle.std.specs.Prelude.{◌≡◌, ◌≤◌, IfSome, length, take};
+ghost use Rattle.std.specs.Option.{option_map};
+ghost use Rattle.replay.specs.Machine.{rules_of};
 ghost use Rattle.star_swap.specs.Check.{Window};
 ghost use Rattle.builders.specs.Tail.{tail_plan};
 ghost use Rattle.builders.specs.Dup.{dup_and_star};
 ghost use Rattle.builders.specs.Draft.{steps_of};
-ghost use Rattle.builders.specs.BuildCode.{plan_in, InRange};
-ghost use Rattle.incumbent.specs.Flush.{common_suffix, pops_cost, with_keys, flush_cost};
-ghost use Rattle.incumbent.specs.Hand.{offered, in_hand, hand_of};
-ghost use Rattle.incumbent.specs.Laws.{OfferDone};
+ghost use Rattle.incumbent.specs.Flush.{pops_cost, with_keys, flush_cost};
+ghost use Rattle.incumbent.specs.Hand.{origin_number, offered, in_hand, held_of, Few, over_list};
 
-use builders::Built;
-use costs::{Cost, Decoded, Step};
-use replay::SearchCfg;
+use costs::{Cost, Step};
+use replay::Rules;
 
-// The bound, whose plan it is (0 none, 1 delete-tail, 2 dup-and-star), and the number of its steps.
-#[derive(Clone, Copy)]
-pub struct Hand {
-    pub bound: Cost,
-    pub origin: u32,
+// The builder that a plan is of.
+#[derive(Clone, Copy, PartialEq, Eq)]
+pub enum Origin {
+    DeleteTail,
+    DupAndStar,
+}
+
+// The plan in hand: the builder that it is of, and how many steps of the list it is.
+#[derive(Clone, Copy, PartialEq, Eq)]
+pub struct Plan {
+    pub origin: Origin,
     pub count: usize,
 }
 
-fn lesser(a: usize, b: usize) -> usize
-    ensures { result ≡ min a b }
-{
-    if a < b { a } else { b }
+// The bound before the search, and the plan in hand, if there is one: its cost is the bound.
+#[derive(Clone, Copy, PartialEq, Eq)]
+pub struct Hand {
+    pub bound: Cost,
+    pub plan: Option<Plan>,
 }
 
-// How many keys from the bottom are the same.
-fn common_suffix(a: &[u8], b: &[u8]) -> usize
-    ensures { result ≡ common_suffix a.now b.now }
-{
-    let m = lesser(a.len(), b.len());
-    let mut k: usize = 0;
-    while k < m {
-        if a[a.len() - 1 - k] != b[b.len() - 1 - k] {
-            return k;
+// The number of an origin: 1, 2.
+impl From<Origin> for u32 {
+    ghost from_gives = { λ origin number. number ≡ origin_number origin };
+
+    fn from(origin: Origin) -> u32 {
+        match origin {
+            Origin::DeleteTail => 1,
+            Origin::DupAndStar => 2,
         }
-        k += 1;
     }
-    k
 }
 
 // The price of so many pops.
+#[tactic(auto, unfolding(crate::specs::Flush::with_pops), using(crate::specs::Laws::pops_turn))]
 fn pops_cost(prices: &[u32], n: usize) -> Cost
     ensures { result ≡ pops_cost prices.now n }
 {
-    let pop = costs::price_of(prices, Decoded::Known(Step::Pop));
+    let pop = costs::price_of(prices, Some(Step::Pop));
     let mut sum = Cost::zero();
-    let mut i: usize = 0;
-    while i < n {
+    for _ in 0..n {
         sum = sum.saturating_add(pop);
-        i += 1;
     }
     sum
 }
 
 // A sum with the prices of keys more.
+#[tactic(auto, unfolding(crate::specs::Flush::with_keys))]
 fn keys_cost(prices: &[u32], from: Cost, keys: &[u8]) -> Cost
     ensures { result ≡ with_keys prices.now from keys.now }
 {
     let mut sum = from;
-    let mut i: usize = 0;
-    while i < keys.len() {
-        let price = costs::price_of(prices, Decoded::Known(Step::PushImm(keys[i])));
-        sum = sum.saturating_add(price);
-        i += 1;
+    for &key in keys {
+        sum = sum.saturating_add(costs::price_of(prices, Some(Step::PushImm(key))));
     }
     sum
 }
 
 // The flush cost.
+#[tactic(auto, unfolding(crate::specs::Flush::flush_cost), using(crate::specs::Laws::suffix_is, crate::specs::Laws::suffix_low))]
 pub fn flush_cost(prices: &[u32], start: &[u8], goal: &[u8]) -> Cost
     ensures { result ≡ flush_cost prices.now start.now goal.now }
 {
-    let same = common_suffix(start, goal);
+    let same = successors::common_suffix(start, goal);
     let pops = pops_cost(prices, start.len() - same);
-    let above = goal.len() - same;
-    keys_cost(prices, pops, &goal[0..above])
+    keys_cost(prices, pops, &goal[..goal.len() - same])
 }
 
-// A builder's plan becomes the plan in hand if it costs no more than the bound so far.
+// A builder's plan, in a list of its own, becomes the plan in hand if it costs no more than the bound so far.
 fn offer(
     hand: Hand,
-    origin: u32,
-    built: Built,
+    origin: Origin,
+    built: Option<usize>,
     tried: &[u16],
     prices: &[u32],
     steps: &mut [u16],
 ) -> Hand
-    requires { (hand.count ≤ 128) × InRange built 128 × (128 ≤ length tried.now) × (128 ≤ length steps.old) }
-    ensures { OfferDone prices.now origin (plan_in built tried.now) hand steps.old result steps.new }
+    requires { Few hand × IfSome built (λ n. n ≤ 128) × (128 ≤ length tried.now) × (128 ≤ length steps.old) }
+    ensures held { held_of result steps.new ≡ offered prices.now (origin_number origin) (option_map (λ n. take n tried.now) built) (held_of hand steps.old) }
+    ensures few { Few result }
 {
-    let Built::Plan(n) = built else {
+    let Some(count) = built else {
         return hand;
     };
-    let cost = costs::cost_for_steps(&tried[0..n], prices);
-    let taken = cost.no_more(hand.bound);
-    if taken {
-        builders::give(tried, n, steps);
-        return Hand {
-            bound: cost,
-            origin,
-            count: n,
-        };
+    let cost = costs::cost_for_steps(&tried[..count], prices);
+    if !cost.no_more(hand.bound) {
+        return hand;
     }
-    hand
+    steps[..count].copy_from_slice(&tried[..count]);
+    Hand {
+        bound: cost,
+        plan: Some(Plan { origin, count }),
+    }
 }
 
-// Delete-tail's plan offered.
-fn offer_tail(
-    hand: Hand,
-    start: &[u8],
-    goal: &[u8],
-    swap_max: usize,
-    prices: &[u32],
-    steps: &mut [u16],
-) -> Hand
-    requires { Window start.now × Window goal.now × (hand.count ≤ 128) × (128 ≤ length steps.old) }
-    ensures { OfferDone prices.now 1 (tail_plan swap_max start.now goal.now) hand steps.old result steps.new }
+// The bound and the plan in hand, which stands in a list that is free to change. The builders write into lists, since a moved `ArrayVec` of 128
+// steps took the planner above its bar of speed.
+fn best(start: &[u8], goal: &[u8], rules: Rules<'_>, prices: &[u32], held: &mut [u16]) -> Hand
+    requires { Window start.now × Window goal.now × (128 ≤ length held.old) }
+    ensures held { held_of result held.new ≡ in_hand prices.now (rules_of rules.entry) start.now goal.now }
+    ensures few { Few result }
 {
-    let mut tried: [u16; 128] = [0; 128];
-    let built = builders::tail_plan(start, goal, swap_max, &mut tried);
-    offer(hand, 1, built, &tried, prices, steps)
+    let flush = Hand {
+        bound: flush_cost(prices, start, goal),
+        plan: None,
+    };
+    let mut tried = [0; 128];
+    let tail = builders::tail_plan(start, goal, rules.cfg.swap_max, &mut tried);
+    let hand = offer(flush, Origin::DeleteTail, tail, &tried, prices, held);
+    let dup = builders::dup_and_star(start, goal, rules, &mut tried);
+    offer(hand, Origin::DupAndStar, dup, &tried, prices, held)
 }
 
-// Dup-and-star's plan offered.
-fn offer_dup(
-    hand: Hand,
-    start: &[u8],
-    goal: &[u8],
-    cfg: SearchCfg,
-    kinds: &[u8],
-    prices: &[u32],
-    steps: &mut [u16],
-) -> Hand
-    requires { Window start.now × Window goal.now × (cfg.max_len ≤ 21) × (length kinds.now ≡ 64) × (hand.count ≤ 128) × (128 ≤ length steps.old) }
-    ensures { OfferDone prices.now 2 (steps_of (dup_and_star (ruled cfg kinds.now) start.now goal.now)) hand steps.old result steps.new }
-{
-    let mut tried: [u16; 128] = [0; 128];
-    let built = builders::dup_and_star(start, goal, cfg, kinds, &mut tried);
-    offer(hand, 2, built, &tried, prices, steps)
-}
-
-// The bound before the search, and the plan in hand over the first places of the step list.
+// The bound before the search, and the plan in hand over the first places of a list.
 pub fn in_hand(
     start: &[u8],
     goal: &[u8],
-    cfg: SearchCfg,
-    kinds: &[u8],
+    rules: Rules<'_>,
     prices: &[u32],
     steps: &mut [u16],
 ) -> Hand
-    requires { Window start.now × Window goal.now × (cfg.max_len ≤ 21) × (length kinds.now ≡ 64) × (128 ≤ length steps.old) }
-    ensures { ((result, steps.new) ≡ hand_of (in_hand prices.now (ruled cfg kinds.now) start.now goal.now) steps.old) × (result.count ≤ 128) }
+    requires { Window start.now × Window goal.now × (128 ≤ length steps.old) }
+    ensures held { held_of result steps.new ≡ in_hand prices.now (rules_of rules.entry) start.now goal.now }
+    ensures few { Few result }
+    ensures list { steps.new ≡ over_list (in_hand prices.now (rules_of rules.entry) start.now goal.now).plan steps.old }
 {
-    let begun = Hand {
-        bound: flush_cost(prices, start, goal),
-        origin: 0,
-        count: 0,
+    let mut held = [0; 128];
+    let hand = best(start, goal, rules, prices, &mut held);
+    let Some(plan) = hand.plan else {
+        return hand;
     };
-    let mut held: [u16; 128] = [0; 128];
-    let one = offer_tail(begun, start, goal, cfg.swap_max, prices, &mut held);
-    let two = offer_dup(one, start, goal, cfg, kinds, prices, &mut held);
-    builders::give(&held, two.count, steps);
-    two
+    steps[..plan.count].copy_from_slice(&held[..plan.count]);
+    hand
 }

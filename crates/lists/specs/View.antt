@@ -1,9 +1,8 @@
 -- What the lent lists hold, in the definitions of the search: the nodes in the order of discovery, and the open entries, least first.
-use Rattle.std.specs.Prelude.{◌≡◌, List, ◌∷◌, map, ℕ, ◌+◌, ◌*◌, ◌≤◌, length}
-use Rattle.std.proofs.Math.Option.{Option, none, some}
+use Rattle.std.specs.Prelude.{◌≡◌, List, ◌∷◌, map, ℕ, ◌+◌, ◌*◌, ◌≤◌, length, Option, None}
+use Rattle.std.specs.Option.{option_map}
 use Rattle.costs.specs.declared.Cost.{Cost}
-use Rattle.costs.specs.declared.Decoded.{Decoded}
-use Rattle.costs.specs.declared.Decoded.TheVariants.{Known as Coded, Unknown}
+use Rattle.costs.specs.declared.Step.{Step}
 use Rattle.costs.specs.Step.{code_of, decoded}
 use Rattle.costs.specs.Packed.{cost_of}
 use Rattle.window.specs.declared.PackedState.{PackedState}
@@ -16,42 +15,25 @@ use Rattle.heap.specs.Heap.{sorted, decode, Heap}
 use Rattle.heap.specs.declared.Entry.{Entry as Waiting}
 use Rattle.nodes.specs.Nodes.{row_at, lookup, Chained, rows as newest}
 use Rattle.nodes.specs.declared.Row.{Row}
-use Rattle.nodes.specs.declared.Found.{Found}
-use Rattle.nodes.specs.declared.Found.TheVariants.{At, Nothing}
 use Rattle.lists.specs.declared.Node.{Node}
-use Rattle.lists.specs.declared.Parent.{Parent}
-use Rattle.lists.specs.declared.Parent.TheVariants.{Start, By}
-use Rattle.lists.specs.declared.Known.{Known}
-use Rattle.lists.specs.declared.Known.TheVariants.{Is, New}
 
 -- a node of the search, whose steps are codes
 abbrev pub SearchNode : Type 0
 SearchNode = NodeOver Cost ℕ
 
--- the state in two halves
-abbrev pub state_of : ℕ → ℕ → ℕ
-state_of hi lo = whole (record { hi = hi; lo = lo })
-
--- ---- a node's parent: none, or a state with a step
-
-abbrev pub parent_is : Parent → Option (ℕ × ℕ)
-parent_is Start = none
-parent_is (By s step) = some (whole s, code_of step)
+-- a node's parent: none, or a state with a step
+abbrev pub parent_is : Option (PackedState × Step) → Option (ℕ × ℕ)
+parent_is p = option_map (λ r. (whole r.0, code_of r.1)) p
 
 abbrev pub node_is : Node → SearchNode
 node_is n = record { state = whole n.state; cost = cost_of n.cost; parent = parent_is n.parent }
 
--- ---- the same in a row of numbers: a number that is no step's code stands for no parent
-
-abbrev pub parent_by : PackedState → Decoded → Parent
-parent_by s (Coded step) = By s step
-parent_by s Unknown = Start
-
-unfoldable pub parent_of : ℕ → ℕ → ℕ → Option (ℕ × ℕ)
-parent_of hi lo step = parent_is (parent_by (record { hi = hi; lo = lo }) (decoded step))
+-- the same in a row of numbers: a number that is no step's code stands for no parent
+unfoldable pub parent_of : PackedState → ℕ → Option (ℕ × ℕ)
+parent_of s step = parent_is (option_map (λ by. (s, by)) (decoded step))
 
 abbrev pub node_of : Row → SearchNode
-node_of r = record { state = state_of r.hi r.lo; cost = cost_of r.cost; parent = parent_of r.phi r.plo r.step }
+node_of r = record { state = whole r.state; cost = cost_of r.cost; parent = parent_of r.parent r.step }
 
 abbrev pub node_at : List ℕ → ℕ → SearchNode
 node_at xs i = node_of (row_at xs i)
@@ -60,12 +42,12 @@ abbrev pub nodes_of : List ℕ → ℕ → List SearchNode
 nodes_of xs n = rows n (node_at xs)
 
 abbrev pub blank : SearchNode
-blank = record { state = 0; cost = cost_of 0; parent = none }
+blank = record { state = 0; cost = cost_of 0; parent = None }
 
 -- ---- the open entries
 
 abbrev pub waits : Waiting → Entry Cost
-waits e = record { f = cost_of e.f; g = cost_of e.g; state = state_of e.hi e.lo }
+waits e = record { f = cost_of e.f; g = cost_of e.g; state = whole e.state }
 
 abbrev pub entry_at : ℕ → Entry Cost
 entry_at k = waits (decode k)
@@ -87,20 +69,11 @@ pub record Piled (xs : List ℕ) (m : ℕ) : Type 0 where
 
 -- ---- what the functions do
 
-abbrev pub node_found : List ℕ → Found → Option SearchNode
-node_found xs Nothing = none
-node_found xs (At i) = some (node_at xs i)
-
--- r is what a look-up of the state hi, lo finds among the first n nodes
-pub record Sought (xs : List ℕ) (n hi lo : ℕ) (r : Found) : Type 0 where
-  pub looked : r ≡ lookup (newest xs n) hi lo
-  pub found : node_found xs r ≡ find (state_of hi lo) (nodes_of xs n)
-  pub missing : r ≡ Nothing → NotBefore blank (state_of hi lo) n (nodes_of xs n)
-
--- what is known of a state
-abbrev pub recalled : Known → Option SearchNode
-recalled New = none
-recalled (Is n) = some (node_is n)
+-- r is what a look-up of the state s finds among the first n nodes
+pub record Sought (xs : List ℕ) (n : ℕ) (s : PackedState) (r : Option ℕ) : Type 0 where
+  pub looked : r ≡ lookup (newest xs n) s
+  pub found : option_map (node_at xs) r ≡ find (whole s) (nodes_of xs n)
+  pub missing : r ≡ None → NotBefore blank (whole s) n (nodes_of xs n)
 
 -- the node v was stored among the n nodes of xs
 pub record Stored (xs : List ℕ) (n : ℕ) (v : SearchNode) (ys hs : List ℕ) (r : ℕ) : Type 0 where

@@ -1,167 +1,108 @@
-// The node list and the open list as the search uses them. A node is a struct that holds its parent; it goes to and from the
-// numbers of a row in `row_of` and `node_of`, and nowhere else.
+// The node list and the open list as the search uses them. A node holds its parent; it goes to and from the numbers of a row by
+// `From`, and nowhere else. The lent slices stand apart: tried in one struct of `&mut`s, and each contract on it had to say besides that
+// each slice keeps its place and its length, which is known of a slice that is a parameter.
 #![tactic(auto)]
 
 ghost use Rattle.std.specs.Prelude.{◌≡◌, ℕ, ◌+◌, ◌-◌, ◌*◌, ◌<◌, ◌≤◌, length};
+ghost use Rattle.std.specs.Option.{option_map};
 ghost use Rattle.astar.specs.Search.{find as found};
-ghost use Rattle.costs.specs.Step.{code_of};
 ghost use Rattle.window.specs.State.{whole};
-ghost use Rattle.lists.specs.View.{parent_of, parent_is, node_of, node_is, nodes_of, recalled, Kept, Piled, Sought, Stored, Pushed, Taken};
+ghost use Rattle.lists.specs.View.{parent_of, parent_is, node_of, node_is, nodes_of, Kept, Piled, Sought, Stored, Pushed, Taken};
 
-use costs::{Decoded, Step};
+use costs::Step;
 use heap::Entry;
-use nodes::{Found, Row};
+use nodes::Row;
 use window::PackedState;
 
-// How a state was reached: the start, or by a step from a state.
-#[derive(Clone, Copy)]
-pub enum Parent {
-    Start,
-    By(PackedState, Step),
-}
+// The step number of a row with no parent: no step's code.
+const NO_STEP: u64 = 65536;
 
-// What the search knows of a state. A cost is gas * 2^32 + bytes.
-#[derive(Clone, Copy)]
+// What the search knows of a state. A cost is gas * 2^32 + bytes. The start has no parent; any other state was reached by a step from
+// a state.
+#[derive(Clone, Copy, PartialEq, Eq)]
 pub struct Node {
     pub state: PackedState,
     pub cost: u64,
-    pub parent: Parent,
+    pub parent: Option<(PackedState, Step)>,
 }
 
-// What is known of a state, if anything.
-#[derive(Clone, Copy)]
-pub enum Known {
-    Is(Node),
-    New,
-}
-
-fn code_of(x: u64) -> u16
-    requires { x < 65536 }
-    ensures { result ≡ x }
+// The parent of a row, if its step number is a step's code.
+#[tactic(auto, unfolding(crate::specs::View::parent_of), using(crate::proofs::Rows::decoded_over))]
+fn parent_of(row: Row) -> Option<(PackedState, Step)>
+    ensures { parent_is result ≡ parent_of row.parent row.step }
 {
-    x as u16
-}
-
-// The parent by a step's code; a number that is no step's code gives none.
-fn parent_by(from: PackedState, code: u16) -> Parent
-    ensures { parent_is result ≡ parent_of from.hi from.lo code }
-{
-    let Decoded::Known(step) = costs::decode(code) else {
-        return Parent::Start;
-    };
-    Parent::By(from, step)
-}
-
-// The parent of a row.
-fn parent_of(hi: u64, lo: u64, step: u64) -> Parent
-    ensures { parent_is result ≡ parent_of hi lo step }
-{
-    if 65536 <= step {
-        return Parent::Start;
-    }
-    parent_by(PackedState { hi: hi, lo: lo }, code_of(step))
+    let code = u16::try_from(row.step).ok()?;
+    let step = Step::try_from(code).ok()?;
+    Some((row.parent, step))
 }
 
 // The node of a row.
-pub fn node_of(row: Row) -> Node
-    ensures { node_is result ≡ node_of row }
-{
-    let parent = parent_of(row.phi, row.plo, row.step);
-    Node {
-        state: PackedState {
-            hi: row.hi,
-            lo: row.lo,
-        },
-        cost: row.cost,
-        parent: parent,
+impl From<Row> for Node {
+    ghost from_gives = { λ row node. node_is node ≡ node_of row };
+
+    fn from(row: Row) -> Node {
+        Node {
+            state: row.state,
+            cost: row.cost,
+            parent: parent_of(row),
+        }
     }
 }
 
-// The number of a step in a row: its code.
-fn number_of(step: Step) -> u64
-    ensures value { result ≡ code_of step }
-    ensures upper_bound { result < 1280 }
-{
-    match step {
-        Step::Pop => 0,
-        Step::Dup(p) => 256 + p as u64,
-        Step::Swap(d) => 512 + d as u64,
-        Step::PushImm(k) => 768 + k as u64,
-        Step::LoadVal(k) => 1024 + k as u64,
-    }
-}
+// The row of a node.
+impl From<Node> for Row {
+    ghost from_gives = { λ node row. (node_of row ≡ node_is node) × (row.state ≡ node.state) };
 
-// The row of a node. The step number of the start is no code.
-pub fn row_of(node: Node) -> Row
-    ensures result_value { node_of result ≡ node_is node }
-    ensures hi_value { result.hi ≡ node.state.hi }
-    ensures lo_value { result.lo ≡ node.state.lo }
-{
-    let state = node.state;
-    let parent = node.parent;
-    let Parent::By(from, step) = parent else {
-        return Row {
-            hi: state.hi,
-            lo: state.lo,
-            cost: node.cost,
-            phi: 0,
-            plo: 0,
-            step: 65536,
+    #[tactic(auto, unfolding(crate::specs::View::parent_of), using(crate::proofs::Rows::decoded_over))]
+    fn from(node: Node) -> Row {
+        let (parent, step) = match node.parent {
+            Some((from, step)) => (from, u64::from(u16::from(step))),
+            None => (PackedState { hi: 0, lo: 0 }, NO_STEP),
         };
-    };
-    Row {
-        hi: state.hi,
-        lo: state.lo,
-        cost: node.cost,
-        phi: from.hi,
-        plo: from.lo,
-        step: number_of(step),
+        Row {
+            state: node.state,
+            cost: node.cost,
+            parent,
+            step,
+        }
     }
 }
 
 // Where the state is among the first n nodes.
-pub fn find(nodes: &[u64], heads: &[u64], n: usize, state: PackedState) -> Found
+pub fn find(nodes: &[u64], heads: &[u64], n: usize, state: PackedState) -> Option<usize>
     requires { Kept nodes.now heads.now n }
-    ensures { Sought nodes.now n state.hi state.lo result }
+    ensures { Sought nodes.now n state result }
 {
-    nodes::find(nodes, heads, n, state.hi, state.lo)
+    nodes::find(nodes, heads, n, state)
 }
 
 // What is known of the state among the first n nodes.
-pub fn recall(nodes: &[u64], heads: &[u64], n: usize, state: PackedState) -> Known
+pub fn recall(nodes: &[u64], heads: &[u64], n: usize, state: PackedState) -> Option<Node>
     requires { Kept nodes.now heads.now n }
-    ensures { recalled result ≡ found (whole state) (nodes_of nodes.now n) }
+    ensures { option_map node_is result ≡ found (whole state) (nodes_of nodes.now n) }
 {
-    let Found::At(i) = find(nodes, heads, n, state) else {
-        return Known::New;
-    };
-    Known::Is(node_of(nodes::row_at(nodes, i)))
-}
-
-// Stores a row where its state was sought; the number of nodes then.
-fn store_row(nodes: &mut [u64], heads: &mut [u64], n: usize, at: Found, row: Row) -> usize
-    requires kept { Kept nodes.old heads.old n }
-    requires n_in_bounds { n * 8 + 8 ≤ length nodes.old }
-    requires sought { Sought nodes.old n row.hi row.lo at }
-    ensures { Stored nodes.old n (node_of row) nodes.new heads.new result }
-{
-    let Found::At(i) = at else {
-        nodes::insert(nodes, heads, n, row);
-        return n + 1;
-    };
-    nodes::update(nodes, n, i, row);
-    n
+    let i = find(nodes, heads, n, state)?;
+    Some(Node::from(nodes::row_at(nodes, i)))
 }
 
 // Stores a node where its state was sought; the number of nodes then.
-pub fn store(nodes: &mut [u64], heads: &mut [u64], n: usize, at: Found, node: Node) -> usize
+pub fn store(nodes: &mut [u64], heads: &mut [u64], n: usize, at: Option<usize>, node: Node) -> usize
     requires kept { Kept nodes.old heads.old n }
     requires n_in_bounds { n * 8 + 8 ≤ length nodes.old }
-    requires sought { Sought nodes.old n node.state.hi node.state.lo at }
+    requires sought { Sought nodes.old n node.state at }
     ensures { Stored nodes.old n (node_is node) nodes.new heads.new result }
 {
-    let row = row_of(node);
-    store_row(nodes, heads, n, at, row)
+    let row = Row::from(node);
+    match at {
+        Some(i) => {
+            nodes::update(nodes, n, i, row);
+            n
+        }
+        None => {
+            nodes::insert(nodes, heads, n, row);
+            n + 1
+        }
+    }
 }
 
 pub fn push(list: &mut [u64], m: usize, e: Entry)

@@ -1,4 +1,5 @@
 pub mod Moves
-pub mod Codes
+pub mod View
+pub mod Ready
 pub mod Told
 pub mod Bare

@@ -1,19 +1,13 @@
 -- Laws of the node list, on plain lists. Assumes nothing.
-use mathlib.Core.Path.{◌≡◌, refl, sym, ap, ◌∙◌}
-use mathlib.Core.Logic.{◌⊎◌, inl, inr, ⊎_elim}
-use mathlib.Core.Bool.{Bool, true, false}
-use mathlib.Core.List.{List, [], ◌∷◌}
-use Prim.Native.Nat.{ℕ, zero, suc, ◌+◌, ◌*◌, ◌/◌, ◌^◌, ◌≤◌, ◌<◌, min}
-use native.Mathlib.Nat.{add-zero, add-suc, suc-add, mod-lt, mul-lt-mul_of_pos_right, mul-le-mul}
-use native.Mathlib.Omega.{arith}
-use native.Mathlib.Decide.{ℕ_discrete, dec_lt}
-use borrow.Author.Tests.{eqb-true}
-use lib.ListN.{length, get_or, set, length-set}
-use lib.Seq.{get_or-set_same, get_or-set_other}
-use lib.Dec.{eqb}
+use Rattle.std.proofs.Common.{◌≡◌, ◌≢◌, refl, sym, ap, ap₂, ◌∙◌, ⊎_elim, Bool, true, false, Some, None, List, ℕ, zero, suc, ◌+◌, ◌*◌, ◌/◌, ◌^◌, ◌≤◌, ◌<◌, min, arith, length, get_or, set, length-set, eqb, mod-lt}
+use Rattle.std.proofs.lemmas.Bool.{cases_Bool, false_from_ne_true, cases_eq, and_parts, eqb-true}
+use Rattle.std.proofs.lemmas.List.{get_or-set_same, get_or-set_other}
+use Rattle.std.proofs.lemmas.Grind.{elements}
+use Rattle.std.proofs.Math.Nat.{mul-lt-mul_of_pos_right, mul-le-mul}
+use Rattle.costs.specs.Laws.{some_injective}
+use Rattle.window.specs.declared.PackedState.{PackedState}
 use Rattle.nodes.specs.declared.Row.{Row}
-use Rattle.nodes.specs.declared.Found.TheVariants.{At, Nothing}
-use Rattle.nodes.specs.Nodes.{row_at, stores, written, rows, both, is_state, lookup, bucket_of, bucket_at, Led, Leads, Chained, Wrote}
+use Rattle.nodes.specs.Nodes.{state_at, row_at, written, rows, is_state, lookup, bucket_of, bucket_at, Led, Leads, Chained, Wrote}
 
 pub scaled_fits : (k w : ℕ) → k < 4294967296 → w ≤ 4294967295 → k * w < 2 ^ 64
 scaled_fits k w l h =
@@ -28,296 +22,186 @@ scaled k m l h =
     let p : k * min m 4294967295 < 4294967296 * min m 4294967295 = mul-lt-mul_of_pos_right l w in
     omega arith
 
-pub bucket_lt : (hi lo m : ℕ) → 0 < m → bucket_of hi lo m < m
+pub bucket_lt : (s : PackedState) (m : ℕ) → 0 < m → bucket_of s m < m
 unfolding bucket_of
-bucket_lt hi lo m h = scaled _ m (mod-lt _ (omega arith)) h
+bucket_lt s m h = scaled _ m (mod-lt _ (omega arith)) h
 
-true_false : true ≡ false → ⊥
-true_false e = let z : ◌≡◌ {A = ℕ} 0 1 = cc in omega arith
+-- a node of a state holds the state, so it is in the state's bucket
+pub state_is : (xs : List ℕ) (i : ℕ) (s : PackedState) → is_state (row_at xs i) s ≡ true → state_at xs i ≡ s
+state_is xs i s e =
+    let t = and_parts (eqb (get_or xs (i * 8) 0) s.hi) (eqb (get_or xs (i * 8 + 1) 0) s.lo) e in
+    ap₂ (λ (a b : ℕ). record { hi = a; lo = b }) (eqb-true (get_or xs (i * 8) 0) s.hi t.0) (eqb-true (get_or xs (i * 8 + 1) 0) s.lo t.1)
 
-pub bucket_below : {r m : ℕ} (hi lo : ℕ) → r ≡ bucket_of hi lo m → 0 < m → r < m
-bucket_below {m = m} hi lo e h = rw e (bucket_lt hi lo m h)
-
-pub both_left : (a b : Bool) → a ≡ true → b ≡ both a b
-both_left a b e = rw e
-
-both_true : (a b : Bool) → both a b ≡ true → (a ≡ true) × (b ≡ true)
-both_true true b e = (refl, e)
-both_true false b e = (cc, cc)
-
--- a node of a state is in the state's bucket
-pub state_bucket : (xs : List ℕ) (m i hi lo : ℕ) → is_state (row_at xs i) hi lo ≡ true → bucket_at xs m i ≡ bucket_of hi lo m
-state_bucket xs m i hi lo e =
-    let t = both_true (eqb (get_or xs (i * 8) 0) hi) (eqb (get_or xs (i * 8 + 1) 0) lo) e in
-    cc (eqb-true (get_or xs (i * 8) 0) hi t.0, eqb-true (get_or xs (i * 8 + 1) 0) lo t.1)
+pub state_bucket : (xs : List ℕ) (m i : ℕ) (s : PackedState) → is_state (row_at xs i) s ≡ true → bucket_at xs m i ≡ bucket_of s m
+state_bucket xs m i s e = ap (λ (v : PackedState). bucket_of v m) (state_is xs i s e)
 
 pub length_rows : (xs : List ℕ) (n : ℕ) → length (rows xs n) ≡ n
 unfolding rows
 length_rows xs zero = refl
 length_rows xs (suc n) = ap suc (length_rows xs n)
 
-pub dec_eq : (a b : ℕ) → (a ≡ b) ⊎ (a ≡ b → ⊥)
-dec_eq a b = by_dec (ℕ_discrete a b)
-  where
-    by_dec : Dec (a ≡ b) → (a ≡ b) ⊎ (a ≡ b → ⊥)
-    by_dec (yes e) = inl e
-    by_dec (no f) = inr f
-
-pub by_lt : {P : Type 0} (a b : ℕ) → (a < b → P) → (b ≤ a → P) → P
-by_lt {P} a b f g = by_dec (dec_lt a b)
-  where
-    by_dec : Dec (a < b) → P
-    by_dec (yes l) = f l
-    by_dec (no l) = g (omega arith)
-
--- the two ways a test can go
-pub by_test : {P : Type 0} (b : Bool) → (b ≡ true → P) → (b ≡ false → P) → P
-by_test true t f = t refl
-by_test false t f = f refl
-
-module _ (xs : List ℕ) (hi lo : ℕ) where
+module _ (xs : List ℕ) (s : PackedState) where
   -- no node of the first n has the state
-  pub lookup_none : (n : ℕ) → ((i : ℕ) → i < n → is_state (row_at xs i) hi lo ≡ true → ⊥) → Nothing ≡ lookup (rows xs n) hi lo
+  pub lookup_none : (n : ℕ) → ((i : ℕ) → i < n → is_state (row_at xs i) s ≡ true → ⊥) → None ≡ lookup (rows xs n) s
   unfolding lookup rows
   lookup_none zero none = refl
   lookup_none (suc n) none =
-      by_test (is_state (row_at xs n) hi lo) (λ e. absurd (none n (omega arith) e)) (λ e. rw e (lookup_none n (λ i l. none i (omega arith))))
+      rw (false_from_ne_true (is_state (row_at xs n) s) (none n (omega arith))) (lookup_none n (λ i l. none i (omega arith)))
 
   -- the last of the first n that has it is cur
-  pub lookup_at : (cur n : ℕ) → cur < n → is_state (row_at xs cur) hi lo ≡ true → ((i : ℕ) → i < n → is_state (row_at xs i) hi lo ≡ true → i ≤ cur) → At cur ≡ lookup (rows xs n) hi lo
+  pub lookup_at : (cur n : ℕ) → cur < n → is_state (row_at xs cur) s ≡ true → ((i : ℕ) → i < n → is_state (row_at xs i) s ≡ true → i ≤ cur) → Some cur ≡ lookup (rows xs n) s
   unfolding lookup rows
   lookup_at cur zero l here last = absurd (omega arith)
   lookup_at cur (suc n) l here last =
-      by_test (is_state (row_at xs n) hi lo)
-      (λ e. let q : cur ≡ n = omega (arith, last n (omega arith) e) in rw e (ap At (q ∙ sym (length_rows xs n))))
-      (λ e.
-      let ne : cur ≡ n → ⊥ = λ q. let z : ◌≡◌ {A = Bool} true false = cc (ap (λ (k : ℕ). is_state (row_at xs k) hi lo) q) in absurd (true_false z) in
-      rw e (lookup_at cur n (omega arith) here (λ i li. last i (omega arith))))
+      ⊎_elim (λ q. rw (← q, here, length_rows xs cur))
+      (λ ne. rw (false_from_ne_true (is_state (row_at xs n) s) (λ e. ne (omega (arith, last n (omega arith) e)))) (lookup_at cur n (omega arith) here (λ i li. last i (omega arith))))
+      (cases_eq cur n)
 
 -- what a look-up found is there
-pub lookup_lt : (xs : List ℕ) (hi lo i n : ℕ) → At i ≡ lookup (rows xs n) hi lo → i < n
+pub lookup_found : (xs : List ℕ) (s : PackedState) (i n : ℕ) → Some i ≡ lookup (rows xs n) s → (i < n) × (is_state (row_at xs i) s ≡ true)
 unfolding lookup rows
-lookup_lt xs hi lo i zero e = let z : ◌≡◌ {A = ℕ} 0 1 = cc in absurd (omega arith)
-lookup_lt xs hi lo i (suc n) e =
-    by_test (is_state (row_at xs n) hi lo)
-    (λ t. let q : i ≡ length (rows xs n) = cc in omega (arith, length_rows xs n))
-    (λ f. omega (arith, lookup_lt xs hi lo i n (rw f at e)))
+lookup_found xs s i zero e = cc
+lookup_found xs s i (suc n) e =
+    ⊎_elim
+    (λ t. let q : i ≡ n = some_injective i n ((rw t at e) ∙ ap Some (length_rows xs n)) in (omega arith, rw q t))
+    (λ f. let h = lookup_found xs s i n (rw f at e) in (omega (arith, h.0), h.1))
+    (cases_Bool (is_state (row_at xs n) s))
 
-pub lookup_state : (xs : List ℕ) (hi lo i n : ℕ) → At i ≡ lookup (rows xs n) hi lo → is_state (row_at xs i) hi lo ≡ true
+-- where a look-up found nothing, no node has the state
+pub lookup_missing : (xs : List ℕ) (s : PackedState) (n : ℕ) → None ≡ lookup (rows xs n) s → (k : ℕ) → k < n → is_state (row_at xs k) s ≡ true → ⊥
 unfolding lookup rows
-lookup_state xs hi lo i zero e = let z : ◌≡◌ {A = ℕ} 0 1 = cc in absurd (omega arith)
-lookup_state xs hi lo i (suc n) e =
-    by_test (is_state (row_at xs n) hi lo)
-    (λ t. let q : i ≡ length (rows xs n) = cc in ap (λ (k : ℕ). is_state (row_at xs k) hi lo) (q ∙ length_rows xs n) ∙ t)
-    (λ f. lookup_state xs hi lo i n (rw f at e))
+lookup_missing xs s zero e k l h = omega arith
+lookup_missing xs s (suc n) e k l h =
+    ⊎_elim
+    (λ t. cc (rw t at e))
+    (λ f. ⊎_elim (λ q. cc (ap (λ (j : ℕ). is_state (row_at xs j) s) q)) (λ ne. lookup_missing xs s n (rw f at e) k (omega arith) h) (cases_eq k n))
+    (cases_Bool (is_state (row_at xs n) s))
 
--- a walk along the chain of (hi, lo)'s bucket has come to cur, past every node of that state that is not below lim
-pub record Walk (xs hs : List ℕ) (n hi lo lim cur : ℕ) : Type 0 where
+-- a walk along the chain of the state's bucket has come to cur, past every node of that state that is not below lim
+pub record Walk (xs hs : List ℕ) (n : ℕ) (s : PackedState) (lim cur : ℕ) : Type 0 where
   pub lim_le : lim ≤ n
-  pub passed : (i : ℕ) → i < n → is_state (row_at xs i) hi lo ≡ true → i < lim
-  pub leads : Leads xs (length hs) lim (bucket_of hi lo (length hs)) cur
+  pub passed : (i : ℕ) → i < n → is_state (row_at xs i) s ≡ true → i < lim
+  pub leads : Leads xs (length hs) lim (bucket_of s (length hs)) cur
 
-pub walk_start : {xs hs : List ℕ} {n : ℕ} (hi lo : ℕ) {cur : ℕ} → Chained xs hs n → cur ≡ get_or hs (bucket_of hi lo (length hs)) 0 → Walk xs hs n hi lo n cur
-walk_start {hs = hs} hi lo ch e = record {
+pub walk_start : {xs hs : List ℕ} {n : ℕ} (s : PackedState) {cur : ℕ} → Chained xs hs n → cur ≡ get_or hs (bucket_of s (length hs)) 0 → Walk xs hs n s n cur
+walk_start {hs = hs} s ch e = record {
   lim_le = omega arith;
-  passed = λ i l s. l;
-  leads = rw e (ch.heads (bucket_of hi lo (length hs)) (bucket_lt hi lo (length hs) ch.some));
+  passed = λ i l _. l;
+  leads = rw e (ch.heads (bucket_of s (length hs)) (bucket_lt s (length hs) ch.some));
 }
 
-module _ {xs hs : List ℕ} {n hi lo lim cur : ℕ} (ch : Chained xs hs n) (w : Walk xs hs n hi lo lim cur) where
+module _ {xs hs : List ℕ} {n : ℕ} {s : PackedState} {lim cur : ℕ} (ch : Chained xs hs n) (w : Walk xs hs n s lim cur) where
   -- what has the state is below lim, and cur reaches it
-  reached : (i : ℕ) → i < n → is_state (row_at xs i) hi lo ≡ true → Led xs (length hs) lim (bucket_of hi lo (length hs)) cur i
-  reached i l s = w.leads i (w.passed i l s) (state_bucket xs (length hs) i hi lo s)
+  reached : (i : ℕ) → i < n → is_state (row_at xs i) s ≡ true → Led xs (length hs) lim (bucket_of s (length hs)) cur i
+  reached i l e = w.leads i (w.passed i l e) (state_bucket xs (length hs) i s e)
 
-  pub walk_next : {t : Bool} → cur < lim → t ≡ is_state (row_at xs cur) hi lo → t ≡ false → {to : ℕ} → to ≡ get_or xs (cur * 8 + 6) 0 → Walk xs hs n hi lo cur to
+  pub walk_next : {t : Bool} → cur < lim → t ≡ is_state (row_at xs cur) s → t ≡ false → {to : ℕ} → to ≡ get_or xs (cur * 8 + 6) 0 → Walk xs hs n s cur to
   walk_next l te f e = record {
     lim_le = omega (arith, w.lim_le);
-    passed = λ i li s.
-        let ne : i ≡ cur → ⊥ = λ q. true_false (cc (ap (λ (k : ℕ). is_state (row_at xs k) hi lo) q)) in
-        omega (arith, (reached i li s).reach);
+    passed = λ i li si.
+        let ne : i ≢ cur = λ q. cc (ap (λ (k : ℕ). is_state (row_at xs k) s) q) in
+        omega (arith, (reached i li si).reach);
     leads = λ i li b.
         let h = (w.leads i (omega arith) b).bucket in
         rw (e, ← h) (ch.nexts cur (omega (arith, w.lim_le)) i li (b ∙ sym h));
   }
 
-  pub walk_found : {t : Bool} → cur < lim → t ≡ is_state (row_at xs cur) hi lo → t ≡ true → At cur ≡ lookup (rows xs n) hi lo
-  walk_found l te s = lookup_at xs hi lo cur n (omega (arith, w.lim_le)) (cc) (λ i li si. (reached i li si).reach)
+  pub walk_found : {t : Bool} → cur < lim → t ≡ is_state (row_at xs cur) s → t ≡ true → Some cur ≡ lookup (rows xs n) s
+  walk_found l te e = lookup_at xs s cur n (omega (arith, w.lim_le)) (cc) (λ i li si. (reached i li si).reach)
 
-  pub walk_none : lim ≤ cur → Nothing ≡ lookup (rows xs n) hi lo
-  walk_none l = lookup_none xs hi lo n (λ i li s. omega (arith, (reached i li s).below))
+  pub walk_none : lim ≤ cur → None ≡ lookup (rows xs n) s
+  walk_none l = lookup_none xs s n (λ i li si. omega (arith, (reached i li si).below))
 
--- ---- stores
+-- ---- a node written
 
-store_other : (xs : List ℕ) (i j v : ℕ) → (j ≡ i → ⊥) → get_or (set xs i v) j 0 ≡ get_or xs j 0
-store_other xs i j v h = get_or-set_other xs i j v 0 h
+module _ (xs : List ℕ) (i : ℕ) (v : Row) (nx : ℕ) (room : i * 8 + 8 ≤ length xs) where
+  abbrev ys : List ℕ
+  ys = written xs (i * 8) v nx
 
-pub length_stores : (xs : List ℕ) (at k : ℕ) (vs : List ℕ) → length (stores xs at k vs) ≡ length xs
-length_stores xs at k [] = refl
-length_stores xs at k (v ∷ vs) = length_stores (set xs (at + k) v) at (suc k) vs ∙ length-set xs (at + k) v
+  length_ys : length ys ≡ length xs
+  length_ys = grind (arith, elements)
 
-pub stores_below : (xs : List ℕ) (at k : ℕ) (vs : List ℕ) (j : ℕ) → j < at + k → get_or (stores xs at k vs) j 0 ≡ get_or xs j 0
-stores_below xs at k [] j l = refl
-stores_below xs at k (v ∷ vs) j l = stores_below (set xs (at + k) v) at (suc k) vs j (omega arith) ∙ store_other xs (at + k) j v (λ e. omega arith)
+  row_new : row_at ys i ≡ v
+  row_new = grind (arith, elements)
 
-pub stores_above : (xs : List ℕ) (at k : ℕ) (vs : List ℕ) (j : ℕ) → at + k + length vs ≤ j → get_or (stores xs at k vs) j 0 ≡ get_or xs j 0
-stores_above xs at k [] j l = refl
-stores_above xs at k (v ∷ vs) j l = stores_above (set xs (at + k) v) at (suc k) vs j (omega arith) ∙ store_other xs (at + k) j v (λ e. omega arith)
+  row_other : (k : ℕ) → k ≢ i → row_at ys k ≡ row_at xs k
+  row_other k ne = grind (arith, elements)
 
-pub stores_in : (xs : List ℕ) (at k : ℕ) (vs : List ℕ) (i : ℕ) → i < length vs → at + k + length vs ≤ length xs → get_or (stores xs at k vs) (at + (k + i)) 0 ≡ get_or vs i 0
-stores_in xs at k [] i l r = absurd (omega arith)
-stores_in xs at k (v ∷ vs) zero l r =
-    rw add-zero (stores_below (set xs (at + k) v) at (suc k) vs (at + k) (omega arith) ∙ get_or-set_same xs (at + k) v 0 (omega arith))
-stores_in xs at k (v ∷ vs) (suc i) l r =
-    rw add-suc (rw suc-add at (stores_in (set xs (at + k) v) at (suc k) vs i (omega arith) (rw length-set (omega arith))))
+  next_new : get_or ys (i * 8 + 6) 0 ≡ nx
+  next_new = grind (arith, elements)
 
--- ---- a list that holds the same below some place
+  next_other : (k : ℕ) → k ≢ i → get_or ys (k * 8 + 6) 0 ≡ get_or xs (k * 8 + 6) 0
+  next_other k ne = grind (arith, elements)
 
-Agree : List ℕ → List ℕ → ℕ → Type 0
-Agree ys xs n = (j : ℕ) → j < n * 8 → get_or ys j 0 ≡ get_or xs j 0
+  bucket_new : (m : ℕ) → bucket_at ys m i ≡ bucket_of v.state m
+  bucket_new m = ap (λ (r : Row). bucket_of r.state m) row_new
 
-bucket_same : (ys xs : List ℕ) (m n i : ℕ) → Agree ys xs n → i < n → bucket_at ys m i ≡ bucket_at xs m i
-unfolding Agree
-bucket_same ys xs m n i s l = rw (s (i * 8) (omega arith), s (i * 8 + 1) (omega arith))
+  bucket_other : (m k : ℕ) → k ≢ i → bucket_at ys m k ≡ bucket_at xs m k
+  bucket_other m k ne = ap (λ (r : Row). bucket_of r.state m) (row_other k ne)
 
-leads_same : (ys xs : List ℕ) (m n lim b h : ℕ) → Agree ys xs n → lim ≤ n → Leads xs m lim b h → Leads ys m lim b h
-leads_same ys xs m n lim b h s le ld i l e =
-    let d = ld i l (sym (bucket_same ys xs m n i s (omega arith)) ∙ e) in
-    record { reach = d.reach; below = d.below; bucket = bucket_same ys xs m n h s (omega (arith, d.below)) ∙ d.bucket }
+  pub wrote : Wrote xs ys i v
+  wrote = record { new = row_new; others = row_other }
 
--- ---- one more node
+  -- the same buckets below lim lead where they led
+  leads_same : (m lim b h : ℕ) → ((k : ℕ) → k < lim → bucket_at ys m k ≡ bucket_at xs m k) → Leads xs m lim b h → Leads ys m lim b h
+  leads_same m lim b h same leads j l e =
+      let d = leads j l (sym (same j l) ∙ e) in
+      record { reach = d.reach; below = d.below; bucket = same h d.below ∙ d.bucket }
 
--- what is stored after the first number
-abbrev after : Row → ℕ → List ℕ
-after v nx = v.lo ∷ v.cost ∷ v.phi ∷ v.plo ∷ v.step ∷ nx ∷ []
-
-module _ (xs : List ℕ) (n : ℕ) (v : Row) (nx : ℕ) (room : n * 8 + 8 ≤ length xs) where
-  new_at : (i : ℕ) → i < 6 → get_or (written xs (n * 8) v nx) (n * 8 + (1 + i)) 0 ≡ get_or (after v nx) i 0
-  new_at i l = stores_in (set xs (n * 8) v.hi) (n * 8) 1 (after v nx) i l (rw length-set (omega arith))
-
-  new_row : row_at (written xs (n * 8) v nx) n ≡ v
-  new_row =
-      rw (
-        stores_below (set xs (n * 8) v.hi) (n * 8) 1 (after v nx) (n * 8) (omega arith),
-        get_or-set_same xs (n * 8) v.hi 0 (omega arith),
-        new_at 0 (omega arith),
-        new_at 1 (omega arith),
-        new_at 2 (omega arith),
-        new_at 3 (omega arith),
-        new_at 4 (omega arith),
-      )
-
-  old : Agree (written xs (n * 8) v nx) xs n
-  unfolding Agree
-  old j l = stores_below (set xs (n * 8) v.hi) (n * 8) 1 (after v nx) j (omega arith) ∙ store_other xs (n * 8) j v.hi (λ e. omega arith)
-
-  module _ (hs : List ℕ) (b : ℕ) (ch : Chained xs hs n) (be : b ≡ bucket_of v.hi v.lo (length hs)) (ne : nx ≡ get_or hs b 0) where
-    ys : List ℕ
-    ys = written xs (n * 8) v nx
-
-    b_new : bucket_at ys (length hs) n ≡ b
-    unfolding ys
-    b_new = ap (λ (r : Row). bucket_of r.hi r.lo (length hs)) new_row ∙ sym be
-
+  -- one more node
+  module _ (hs : List ℕ) (ch : Chained xs hs i) (b : ℕ) (be : b ≡ bucket_of v.state (length hs)) (ne : nx ≡ get_or hs b 0) where
     b_lt : b < length hs
-    b_lt = bucket_below v.hi v.lo be ch.some
+    b_lt = rw be (bucket_lt v.state (length hs) ch.some)
 
-    keeps : (lim b' h : ℕ) → lim ≤ n → Leads xs (length hs) lim b' h → Leads ys (length hs) lim b' h
-    unfolding ys
-    keeps lim b' h = leads_same ys xs (length hs) n lim b' h old
+    same_below : (lim : ℕ) → lim ≤ i → (k : ℕ) → k < lim → bucket_at ys (length hs) k ≡ bucket_at xs (length hs) k
+    same_below lim le k l = bucket_other (length hs) k (omega arith)
 
-    -- the heads
-    heads_more : (b' : ℕ) → b' < length hs → Leads ys (length hs) (n + 1) b' (get_or (set hs b n) b' 0)
-    heads_more b' l i li e = ⊎_elim mine other (dec_eq b' b)
+    heads_more : (c : ℕ) → c < length hs → Leads ys (length hs) (i + 1) c (get_or (set hs b i) c 0)
+    heads_more c l j lj e = ⊎_elim mine other (cases_eq c b)
       where
-        mine : b' ≡ b → Led ys (length hs) (n + 1) b' (get_or (set hs b n) b' 0) i
-        mine q = rw (q, get_or-set_same hs b n 0 b_lt) (record { reach = omega arith; below = omega arith; bucket = b_new })
+        mine : c ≡ b → Led ys (length hs) (i + 1) c (get_or (set hs b i) c 0) j
+        mine q = rw (q, get_or-set_same hs b i 0 b_lt) (record { reach = omega arith; below = omega arith; bucket = bucket_new (length hs) ∙ sym be })
 
-        other : (b' ≡ b → ⊥) → Led ys (length hs) (n + 1) b' (get_or (set hs b n) b' 0) i
+        other : c ≢ b → Led ys (length hs) (i + 1) c (get_or (set hs b i) c 0) j
         other q =
-            let ine : i ≡ n → ⊥ = λ r. q (sym e ∙ ap (λ (k : ℕ). bucket_at ys (length hs) k) r ∙ b_new) in
-            let d = keeps n b' (get_or hs b' 0) (omega arith) (ch.heads b' l) i (omega arith) e in
-            rw (get_or-set_other hs b b' n 0 q) (record { reach = d.reach; below = omega (arith, d.below); bucket = d.bucket })
+            let apart : j ≢ i = λ r. q (sym e ∙ ap (bucket_at ys (length hs)) r ∙ bucket_new (length hs) ∙ sym be) in
+            let d = leads_same (length hs) i c (get_or hs c 0) (same_below i (omega arith)) (ch.heads c l) j (omega arith) e in
+            rw (get_or-set_other hs b c i 0 q) (record { reach = d.reach; below = omega (arith, d.below); bucket = d.bucket })
 
-    nexts_more : (j : ℕ) → j < n + 1 → Leads ys (length hs) j (bucket_at ys (length hs) j) (get_or ys (j * 8 + 6) 0)
-    unfolding Agree ys
-    nexts_more j l = ⊎_elim mine other (dec_eq j n)
+    nexts_more : (j : ℕ) → j < i + 1 → Leads ys (length hs) j (bucket_at ys (length hs) j) (get_or ys (j * 8 + 6) 0)
+    nexts_more j l = ⊎_elim mine other (cases_eq j i)
       where
-        mine : j ≡ n → Leads ys (length hs) j (bucket_at ys (length hs) j) (get_or ys (j * 8 + 6) 0)
-        mine q = rw (q, b_new, new_at 5 (omega arith)) (keeps n b nx (omega arith) (rw ne (ch.heads b b_lt)))
+        mine : j ≡ i → Leads ys (length hs) j (bucket_at ys (length hs) j) (get_or ys (j * 8 + 6) 0)
+        mine q = let to : get_or ys (i * 8 + 6) 0 ≡ get_or hs b 0 = next_new ∙ ne in rw (q, bucket_new (length hs), ← be, to) (leads_same (length hs) i b (get_or hs b 0) (same_below i (omega arith)) (ch.heads b b_lt))
 
-        other : (j ≡ n → ⊥) → Leads ys (length hs) j (bucket_at ys (length hs) j) (get_or ys (j * 8 + 6) 0)
+        other : j ≢ i → Leads ys (length hs) j (bucket_at ys (length hs) j) (get_or ys (j * 8 + 6) 0)
         other q =
-            rw (old (j * 8 + 6) (omega arith), bucket_same ys xs (length hs) n j old (omega arith))
-            (keeps j (bucket_at xs (length hs) j) (get_or xs (j * 8 + 6) 0) (omega arith) (ch.nexts j (omega arith)))
+            rw (bucket_other (length hs) j q, next_other j q)
+            (leads_same (length hs) j (bucket_at xs (length hs) j) (get_or xs (j * 8 + 6) 0) (same_below j (omega arith)) (ch.nexts j (omega arith)))
 
-    pub chained_more : Chained (written xs (n * 8) v nx) (set hs b n) (n + 1)
-    unfolding ys
+    pub chained_more : Chained ys (set hs b i) (i + 1)
     chained_more = record {
-      room = omega (arith, length_stores (set xs (n * 8) v.hi) (n * 8) 1 (after v nx), length-set xs (n * 8) v.hi);
+      room = omega (arith, length_ys);
       some = rw length-set ch.some;
       heads = rw length-set heads_more;
       nexts = rw length-set nexts_more;
     }
 
--- what `insert` ensures, from what it does
-module _ (xs ys hs : List ℕ) (n b : ℕ) (v : Row) (room : n * 8 + 8 ≤ length xs) (e : ys ≡ written xs (n * 8) v (get_or hs b 0)) where
-  pub inserted_chained : Chained xs hs n → b ≡ bucket_of v.hi v.lo (length hs) → Chained ys (set hs b n) (n + 1)
-  inserted_chained ch be = rw e (chained_more xs n v (get_or hs b 0) room hs b ch be refl)
+  -- another row for a state
+  module _ (st : is_state (row_at xs i) v.state ≡ true) (ne : nx ≡ get_or xs (i * 8 + 6) 0) where
+    bucket_same : (m k : ℕ) → bucket_at ys m k ≡ bucket_at xs m k
+    bucket_same m k = ⊎_elim (λ q. rw q (bucket_new m ∙ sym (state_bucket xs m i v.state st))) (bucket_other m k) (cases_eq k i)
 
--- ---- another row for a state
+    next_same : (k : ℕ) → get_or ys (k * 8 + 6) 0 ≡ get_or xs (k * 8 + 6) 0
+    next_same k = ⊎_elim (λ q. rw q (next_new ∙ ne)) (next_other k) (cases_eq k i)
 
--- the same buckets and nexts
-chained_same : (xs ys hs : List ℕ) (n : ℕ) → length ys ≡ length xs
-    → ((j : ℕ) → j < n → bucket_at ys (length hs) j ≡ bucket_at xs (length hs) j)
-    → ((j : ℕ) → j < n → get_or ys (j * 8 + 6) 0 ≡ get_or xs (j * 8 + 6) 0)
-    → Chained xs hs n → Chained ys hs n
-chained_same xs ys hs n le bs ns ch = record {
-  room = omega (arith, ch.room);
-  some = ch.some;
-  heads = λ b l. moved n b (get_or hs b 0) (omega arith) (ch.heads b l);
-  nexts = λ j l. rw (bs j l, ns j l) (moved j (bucket_at xs (length hs) j) (get_or xs (j * 8 + 6) 0) (omega arith) (ch.nexts j l));
-}
-  where
-    moved : (lim b h : ℕ) → lim ≤ n → Leads xs (length hs) lim b h → Leads ys (length hs) lim b h
-    moved lim b h le ld i l e =
-        let d = ld i l (sym (bs i (omega arith)) ∙ e) in
-        record { reach = d.reach; below = d.below; bucket = bs h (omega (arith, d.below)) ∙ d.bucket }
-
-module _ (xs : List ℕ) (n i : ℕ) (v : Row) (nx : ℕ) (room : n * 8 ≤ length xs) (l : i < n) where
-  other_at : (j : ℕ) → (i * 8 ≤ j → j < i * 8 + 7 → ⊥) → get_or (written xs (i * 8) v nx) j 0 ≡ get_or xs j 0
-  other_at j o =
-      by_lt j (i * 8)
-      (λ a. stores_below (set xs (i * 8) v.hi) (i * 8) 1 (after v nx) j (omega arith) ∙ store_other xs (i * 8) j v.hi (λ q. omega arith))
-      (λ a.
-      by_lt j (i * 8 + 7) (λ b. absurd (o a b))
-      (λ b. stores_above (set xs (i * 8) v.hi) (i * 8) 1 (after v nx) j (omega arith) ∙ store_other xs (i * 8) j v.hi (λ q. omega arith)))
-
-  row_at_lem : (k : ℕ) → (k ≡ i → ⊥) → row_at (written xs (i * 8) v nx) k ≡ row_at xs k
-  row_at_lem k ne =
-      rw (other_at (k * 8) (λ a b. ne (omega arith)), other_at (k * 8 + 1) (λ a b. ne (omega arith)), other_at (k * 8 + 2) (λ a b. ne (omega arith)), other_at (k * 8 + 3) (λ a b. ne (omega arith)), other_at (k * 8 + 4) (λ a b. ne (omega arith)), other_at (k * 8 + 5) (λ a b. ne (omega arith)))
-
-  new_is : row_at (written xs (i * 8) v nx) i ≡ v
-  new_is = new_row xs i v nx (omega arith)
-
-  module _ (hs : List ℕ) (st : is_state (row_at xs i) v.hi v.lo ≡ true) (ne : nx ≡ get_or xs (i * 8 + 6) 0) where
-    abbrev bucket_of_row : Row → ℕ
-    bucket_of_row r = bucket_of r.hi r.lo (length hs)
-
-    pub chained_updated : Chained xs hs n → Chained (written xs (i * 8) v nx) hs n
-    chained_updated =
-        chained_same xs (written xs (i * 8) v nx) hs n
-        (length_stores (set xs (i * 8) v.hi) (i * 8) 1 (after v nx) ∙ length-set xs (i * 8) v.hi)
-        (λ j lj.
-        ⊎_elim (λ q. ap (λ (k : ℕ). bucket_of_row (row_at (written xs (i * 8) v nx) k)) q ∙ ap bucket_of_row new_is ∙ sym (state_bucket xs (length hs) i v.hi v.lo st) ∙ ap (λ (k : ℕ). bucket_of_row (row_at xs k)) (sym q))
-        (λ nq. ap bucket_of_row (row_at_lem j nq)) (dec_eq j i))
-        (λ j lj.
-        ⊎_elim (λ q. ap (λ (k : ℕ). get_or (written xs (i * 8) v nx) (k * 8 + 6) 0) q ∙ new_at xs i v nx (omega arith) 5 (omega arith) ∙ ne ∙ ap (λ (k : ℕ). get_or xs (k * 8 + 6) 0) (sym q))
-        (λ nq. other_at (j * 8 + 6) (λ a b. nq (omega arith))) (dec_eq j i))
-
--- what `update` ensures, from what it does
-module _ (xs ys : List ℕ) (n i : ℕ) (v : Row) (room : n * 8 ≤ length xs) (l : i < n) (e : ys ≡ written xs (i * 8) v (get_or xs (i * 8 + 6) 0)) where
-  pub updated_chained : is_state (row_at xs i) v.hi v.lo ≡ true → (hs : List ℕ) → Chained xs hs n → Chained ys hs n
-  updated_chained st hs ch = rw e (chained_updated xs n i v (get_or xs (i * 8 + 6) 0) room l hs st refl ch)
+    pub chained_same : (hs : List ℕ) (n : ℕ) → Chained xs hs n → Chained ys hs n
+    chained_same hs n ch = record {
+      room = omega (arith, length_ys, ch.room);
+      some = ch.some;
+      heads = λ b l. leads_same (length hs) n b (get_or hs b 0) (λ k _. bucket_same (length hs) k) (ch.heads b l);
+      nexts = λ j l. rw (bucket_same (length hs) j, next_same j) (leads_same (length hs) j (bucket_at xs (length hs) j) (get_or xs (j * 8 + 6) 0) (λ k _. bucket_same (length hs) k) (ch.nexts j l));
+    }
 
 -- nothing is asked of what the lists held before the first node
 pub chained_empty : (xs hs : List ℕ) → 0 < length hs → Chained xs hs 0
@@ -328,10 +212,13 @@ chained_empty xs hs h = record {
   nexts = λ j l. absurd (omega arith);
 }
 
--- a row written, new or in place of another
+-- what `insert` and `update` ensure, from what they do
 module _ (xs ys : List ℕ) (i : ℕ) (v : Row) (nx : ℕ) (e : ys ≡ written xs (i * 8) v nx) where
-  pub wrote : i * 8 + 8 ≤ length xs → Wrote xs ys i v
-  wrote room = rw e (record { new = new_is xs (i + 1) i v nx (omega arith) (omega arith); others = row_at_lem xs (i + 1) i v nx (omega arith) (omega arith) })
+  pub wrote_row : i * 8 + 8 ≤ length xs → Wrote xs ys i v
+  wrote_row room = rw e (wrote xs i v nx room)
 
-  pub wrote_below : (n : ℕ) → n * 8 ≤ length xs → i < n → Wrote xs ys i v
-  wrote_below n room l = wrote (omega arith)
+  pub inserted_chained : (hs : List ℕ) (b : ℕ) → i * 8 + 8 ≤ length xs → Chained xs hs i → b ≡ bucket_of v.state (length hs) → nx ≡ get_or hs b 0 → Chained ys (set hs b i) (i + 1)
+  inserted_chained hs b room ch be ne = rw e (chained_more xs i v nx room hs ch b be ne)
+
+  pub updated_chained : (hs : List ℕ) (n : ℕ) → i * 8 + 8 ≤ length xs → is_state (row_at xs i) v.state ≡ true → nx ≡ get_or xs (i * 8 + 6) 0 → Chained xs hs n → Chained ys hs n
+  updated_chained hs n room st ne ch = rw e (chained_same xs i v nx room st ne hs n ch)

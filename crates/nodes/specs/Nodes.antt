@@ -1,20 +1,21 @@
 -- What the node list means: the rows of the first n nodes, newest first, and what a look-up of a state in them gives. `Chained` is
 -- what ties the lists of numbers to it: each bucket's head, and each node's next, is the last node before it of the same bucket.
 -- Assumes nothing.
-use Rattle.std.specs.Prelude.{◌≡◌, Bool, true, false, List, [], ◌∷◌, ℕ, zero, suc, ◌+◌, ◌*◌, ◌/◌, ◌%◌, ◌^◌, ◌≤◌, ◌<◌, min, length, get_or, set, eqb}
+use Rattle.std.specs.Prelude.{◌≡◌, Bool, ◌&&◌, cond, Option, Some, None, List, [], ◌∷◌, ℕ, zero, suc, ◌+◌, ◌*◌, ◌/◌, ◌%◌, ◌^◌, ◌≤◌, ◌<◌, min, length, get_or, set, eqb}
 use Rattle.std.specs.Int.Bits.{bit_xor}
+use Rattle.window.specs.declared.PackedState.{PackedState}
 use Rattle.nodes.specs.declared.Row.{Row}
-use Rattle.nodes.specs.declared.Found.{Found}
-use Rattle.nodes.specs.declared.Found.TheVariants.{At, Nothing}
+
+-- the state of the node at index i
+abbrev pub state_at : List ℕ → ℕ → PackedState
+state_at xs i = record { hi = get_or xs (i * 8) 0; lo = get_or xs (i * 8 + 1) 0 }
 
 -- the node at index i
 abbrev pub row_at : List ℕ → ℕ → Row
 row_at xs i = record {
-  hi = get_or xs (i * 8) 0;
-  lo = get_or xs (i * 8 + 1) 0;
+  state = state_at xs i;
   cost = get_or xs (i * 8 + 2) 0;
-  phi = get_or xs (i * 8 + 3) 0;
-  plo = get_or xs (i * 8 + 4) 0;
+  parent = record { hi = get_or xs (i * 8 + 3) 0; lo = get_or xs (i * 8 + 4) 0 };
   step = get_or xs (i * 8 + 5) 0;
 }
 
@@ -25,42 +26,36 @@ stores xs at k (v ∷ vs) = stores (set xs (at + k) v) at (suc k) vs
 
 -- a node and its next, written from the place at on
 abbrev pub written : List ℕ → ℕ → Row → ℕ → List ℕ
-written xs at v next = stores (set xs at v.hi) at 1 (v.lo ∷ v.cost ∷ v.phi ∷ v.plo ∷ v.step ∷ next ∷ [])
+written xs at v next = stores (set xs at v.state.hi) at 1 (v.state.lo ∷ v.cost ∷ v.parent.hi ∷ v.parent.lo ∷ v.step ∷ next ∷ [])
 
 -- the first n nodes, the newest first
 unfoldable pub rows : List ℕ → ℕ → List Row
 rows xs zero = []
 rows xs (suc n) = row_at xs n ∷ rows xs n
 
-abbrev pub both : Bool → Bool → Bool
-both true b = b
-both false b = false
-
-abbrev pub is_state : Row → ℕ → ℕ → Bool
-is_state r hi lo = both (eqb r.hi hi) (eqb r.lo lo)
-
-abbrev pub pick : Bool → Found → Found → Found
-pick true a b = a
-pick false a b = b
+-- whether a node is of a state
+abbrev pub is_state : Row → PackedState → Bool
+is_state r s = eqb r.state.hi s.hi && eqb r.state.lo s.lo
 
 -- the newest node of a state, by its index from the oldest
-unfoldable pub lookup : List Row → ℕ → ℕ → Found
-lookup [] hi lo = Nothing
-lookup (r ∷ rs) hi lo = pick (is_state r hi lo) (At (length rs)) (lookup rs hi lo)
+unfoldable pub lookup : List Row → PackedState → Option ℕ
+lookup [] s = None
+lookup (r ∷ rs) s = cond (is_state r s) (Some (length rs)) (lookup rs s)
 
 mixed : ℕ → ℕ
 mixed h = bit_xor h (h / 2 ^ 32)
 
 -- the bucket of a state, of m: a number of 32 bits, scaled to m
-unfoldable pub bucket_of : ℕ → ℕ → ℕ → ℕ
+unfoldable pub bucket_of : PackedState → ℕ → ℕ
 unfolding mixed
-bucket_of hi lo m =
-    mixed (bit_xor (bit_xor (bit_xor (lo % 4294967296 * 2654435769) (lo / 2 ^ 32 * 2246822519)) (hi % 4294967296 * 3266489917)) (hi / 2 ^ 32 * 668265263)) % 4294967296
+bucket_of s m =
+    mixed (bit_xor (bit_xor (bit_xor (s.lo % 4294967296 * 2654435769) (s.lo / 2 ^ 32 * 2246822519)) (s.hi % 4294967296 * 3266489917)) (s.hi / 2 ^ 32 * 668265263)) % 4294967296
     * min m 4294967295
     / 2 ^ 32
 
+-- the bucket of the node at index i
 abbrev pub bucket_at : List ℕ → ℕ → ℕ → ℕ
-bucket_at xs m i = bucket_of (get_or xs (i * 8) 0) (get_or xs (i * 8 + 1) 0) m
+bucket_at xs m i = bucket_of (state_at xs i) m
 
 -- h is the last node below lim in the bucket of the node i
 pub record Led (xs : List ℕ) (m lim b h i : ℕ) : Type 0 where

@@ -1,71 +1,60 @@
-// The node list: a map from a state (hi, lo) to what the search knows of it, in two lent lists of numbers. Node i stands at
-// i * 8: hi, lo, cost, parent hi, parent lo, step, next, spare. `heads` has a bucket at each place, and needs no clearing.
+// The node list: a map from a state to what the search knows of it, in two lent lists of numbers. Node i stands at i * 8: the two
+// halves of its state, its cost, the two halves of its parent, its step, the next of its bucket, and a spare. `heads` has a bucket
+// at each place, and needs no clearing.
 #![tactic(auto)]
 
-ghost use Rattle.std.specs.Prelude.{◌≡◌, ℕ, ◌+◌, ◌*◌, ◌<◌, ◌≤◌, min, List, ◌∷◌, true, length, get_or};
+ghost use Rattle.std.specs.Prelude.{◌≡◌, ℕ, ◌+◌, ◌*◌, ◌<◌, ◌≤◌, List, true, length, get_or};
 ghost use Rattle.nodes.specs.Nodes.{Chained, bucket_of, rows, lookup, written, row_at, is_state, Wrote};
 
-#[derive(Clone, Copy)]
-pub enum Found {
-    At(usize),
-    Nothing,
-}
+use window::PackedState;
 
 // What the search knows of a state.
-#[derive(Clone, Copy)]
+#[derive(Clone, Copy, PartialEq, Eq)]
 pub struct Row {
-    pub hi: u64,
-    pub lo: u64,
+    pub state: PackedState,
     pub cost: u64,
-    pub phi: u64,
-    pub plo: u64,
+    pub parent: PackedState,
     pub step: u64,
 }
 
-// A length as a factor of 32 bits.
-fn width(m: usize) -> u64
-    ensures { result ≡ min m 4294967295 }
+// The bucket of a state, of m.
+#[tactic(auto, unfolding(crate::specs::Nodes::bucket_of), using(crate::proofs::Lemmas::scaled_fits, crate::proofs::Lemmas::bucket_lt))]
+fn bucket(state: PackedState, m: usize) -> usize
+    ensures value { result ≡ bucket_of state m }
+    ensures within { 0 < m → result < m }
 {
-    if m < 4294967295 { m as u64 } else { 4294967295 }
-}
-
-fn bucket(hi: u64, lo: u64, m: usize) -> usize
-    ensures { result ≡ bucket_of hi lo m }
-{
-    let a = (lo % 4294967296) * 2654435769;
-    let b = (lo >> 32) * 2246822519;
-    let c = (hi % 4294967296) * 3266489917;
-    let d = (hi >> 32) * 668265263;
+    let a = (state.lo % 4294967296) * 2654435769;
+    let b = (state.lo >> 32) * 2246822519;
+    let c = (state.hi % 4294967296) * 3266489917;
+    let d = (state.hi >> 32) * 668265263;
     let h = a ^ b ^ c ^ d;
     let k = (h ^ (h >> 32)) % 4294967296;
-    index((k * width(m)) >> 32)
+    let width = (m as u64).min(4294967295);
+    ((k * width) >> 32) as usize
 }
 
-fn index(x: u64) -> usize
-    ensures { result ≡ x }
-{
-    x as usize
-}
-
-fn same(nodes: &[u64], i: usize, hi: u64, lo: u64) -> bool
+// Whether node i is of a state.
+fn has_state(nodes: &[u64], i: usize, state: PackedState) -> bool
     requires { i * 8 + 8 ≤ length nodes.now }
-    ensures { result ≡ is_state (row_at nodes.now i) hi lo }
+    ensures { result ≡ is_state (row_at nodes.now i) state }
 {
-    nodes[i * 8] == hi && nodes[i * 8 + 1] == lo
+    nodes[i * 8] == state.hi && nodes[i * 8 + 1] == state.lo
 }
 
-fn head(heads: &[u64], hi: u64, lo: u64) -> usize
+// The newest node of a bucket, if it is below the number of nodes.
+fn head(heads: &[u64], state: PackedState) -> usize
     requires { 0 < length heads.now }
-    ensures { result ≡ get_or heads.now (bucket_of hi lo (length heads.now)) 0 }
+    ensures { result ≡ get_or heads.now (bucket_of state (length heads.now)) 0 }
 {
-    index(heads[bucket(hi, lo, heads.len())])
+    heads[bucket(state, heads.len())] as usize
 }
 
+// The node before node i in its bucket, if it is below i.
 fn next(nodes: &[u64], i: usize) -> usize
     requires { i * 8 + 8 ≤ length nodes.now }
     ensures { result ≡ get_or nodes.now (i * 8 + 6) 0 }
 {
-    index(nodes[i * 8 + 6])
+    nodes[i * 8 + 6] as usize
 }
 
 // The cost of node i.
@@ -83,42 +72,47 @@ pub fn row_at(nodes: &[u64], i: usize) -> Row
 {
     let at = i * 8;
     Row {
-        hi: nodes[at],
-        lo: nodes[at + 1],
+        state: PackedState {
+            hi: nodes[at],
+            lo: nodes[at + 1],
+        },
         cost: nodes[at + 2],
-        phi: nodes[at + 3],
-        plo: nodes[at + 4],
+        parent: PackedState {
+            hi: nodes[at + 3],
+            lo: nodes[at + 4],
+        },
         step: nodes[at + 5],
     }
 }
 
-pub fn find(nodes: &[u64], heads: &[u64], n: usize, hi: u64, lo: u64) -> Found
+// The newest of the first n nodes that is of the state.
+pub fn find(nodes: &[u64], heads: &[u64], n: usize, state: PackedState) -> Option<usize>
     requires { Chained nodes.now heads.now n }
-    ensures { result ≡ lookup (rows nodes.now n) hi lo }
+    ensures { result ≡ lookup (rows nodes.now n) state }
 {
     let mut lim = n;
-    let mut cur = head(heads, hi, lo);
+    let mut cur = head(heads, state);
     while cur < lim {
-        if same(nodes, cur, hi, lo) {
-            return Found::At(cur);
+        if has_state(nodes, cur, state) {
+            return Some(cur);
         }
         lim = cur;
         cur = next(nodes, cur);
     }
-    Found::Nothing
+    None
 }
 
-// Writes a node at index i, and the chain's next.
+// Writes a node at index i, and the next of its bucket.
 fn put(nodes: &mut [u64], i: usize, node: Row, next: u64)
     requires { i * 8 + 8 ≤ length nodes.old }
     ensures { nodes.new ≡ written nodes.old (i * 8) node next }
 {
     let at = i * 8;
-    nodes[at] = node.hi;
-    nodes[at + 1] = node.lo;
+    nodes[at] = node.state.hi;
+    nodes[at + 1] = node.state.lo;
     nodes[at + 2] = node.cost;
-    nodes[at + 3] = node.phi;
-    nodes[at + 4] = node.plo;
+    nodes[at + 3] = node.parent.hi;
+    nodes[at + 4] = node.parent.lo;
     nodes[at + 5] = node.step;
     nodes[at + 6] = next;
 }
@@ -130,7 +124,7 @@ pub fn insert(nodes: &mut [u64], heads: &mut [u64], n: usize, node: Row)
     ensures chained_2 { Chained nodes.new heads.new (n + 1) }
     ensures wrote { Wrote nodes.old nodes.new n node }
 {
-    let b = bucket(node.hi, node.lo, heads.len());
+    let b = bucket(node.state, heads.len());
     put(nodes, n, node, heads[b]);
     heads[b] = n as u64;
 }
@@ -139,10 +133,10 @@ pub fn insert(nodes: &mut [u64], heads: &mut [u64], n: usize, node: Row)
 pub fn update(nodes: &mut [u64], n: usize, i: usize, node: Row)
     requires n_in_bounds { n * 8 ≤ length nodes.old }
     requires i_lt_n { i < n }
-    requires lo_value { is_state (row_at nodes.old i) node.hi node.lo ≡ true }
+    requires same_state { is_state (row_at nodes.old i) node.state ≡ true }
     ensures by_index { (hs : List ℕ) → Chained nodes.old hs n → Chained nodes.new hs n }
     ensures wrote { Wrote nodes.old nodes.new i node }
 {
-    let onward = nodes[i * 8 + 6];
-    put(nodes, i, node, onward);
+    let next = nodes[i * 8 + 6];
+    put(nodes, i, node, next);
 }

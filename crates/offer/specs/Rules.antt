@@ -1,6 +1,6 @@
 -- Problems whose steps are codes.
 use Rattle.std.specs.Prelude.{List, [], ℕ}
-use Rattle.std.proofs.Math.Option.{Option}
+use Rattle.std.specs.Prelude.{Option}
 use Rattle.costs.specs.declared.Cost.{Cost}
 use Rattle.costs.specs.Packed.{cost_of}
 use Rattle.algebra.specs.GasBytes.{gas_bytes}

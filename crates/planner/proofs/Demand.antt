@@ -1,7 +1,7 @@
 -- Demand 3, proved: of two answers before they become fields, of their fields and step lists, and as callers got them.
 use Rattle.std.specs.Prelude.{ℕ, zero, suc, true, false, List, ◌≡◌, refl, T, eqb}
 use Rattle.std.proofs.Common.{ap, sym, ◌∙◌, subst, arith, ne_eqb}
-use Rattle.std.proofs.Math.Option.{Option, none, some}
+use Rattle.std.specs.Prelude.{Option, None, Some}
 use Rattle.costs.specs.Choice.{◌if◌otherwise◌}
 use Rattle.costs.specs.Cost.{no_more}
 use Rattle.costs.specs.declared.Cost.{Cost}
@@ -20,18 +20,18 @@ use Rattle.planner.specs.Steady.{allowing, plan_cost, pass_mark, Demand3, steady
 
 module _ (q : Rules) (start : List ℕ) where
   ended : (o : Option (Found Cost ℕ)) (e x : ℕ) → (fields_of q start o e x).ending ≡ e
-  ended none e x = refl
-  ended (some p) e x = refl
+  ended None e x = refl
+  ended (Some p) e x = refl
 
   -- of two plans, and of one
-  mark_falls : (o u : Option (Found Cost ℕ)) (e x i y : ℕ) (p v : Found Cost ℕ) → o ≡ some p → u ≡ some v → T (gas_bytes.le v.ceiling p.ceiling) →
+  mark_falls : (o u : Option (Found Cost ℕ)) (e x i y : ℕ) (p v : Found Cost ℕ) → o ≡ Some p → u ≡ Some v → T (gas_bytes.le v.ceiling p.ceiling) →
       no_more (pass_mark (fields_of q start u i y)) (pass_mark (fields_of q start o e x)) ≡ true
   mark_falls o u e x i y p v f g h = rw (f, g) (le_more v.ceiling p.ceiling h)
 
-  cost_within : (o : Option (Found Cost ℕ)) (e x : ℕ) (p : Found Cost ℕ) → o ≡ some p → T (gas_bytes.le p.cost p.ceiling) → no_more (plan_cost (fields_of q start o e x)) (pass_mark (fields_of q start o e x)) ≡ true
+  cost_within : (o : Option (Found Cost ℕ)) (e x : ℕ) (p : Found Cost ℕ) → o ≡ Some p → T (gas_bytes.le p.cost p.ceiling) → no_more (plan_cost (fields_of q start o e x)) (pass_mark (fields_of q start o e x)) ≡ true
   cost_within o e x p f h = rw f (le_more p.cost p.ceiling h)
 
-  is_found : (o : Option (Found Cost ℕ)) (e x : ℕ) (p : Found Cost ℕ) → o ≡ some p → (fields_of q start o e x).found ≡ 1
+  is_found : (o : Option (Found Cost ℕ)) (e x : ℕ) (p : Found Cost ℕ) → o ≡ Some p → (fields_of q start o e x).found ≡ 1
   is_found o e x p f = rw f
 
   pub steady_fields : (r s : Answered Cost ℕ) (xs ys : List ℕ) → Steady gas_bytes ℕ r s → Demand3 (fields q start r) (steps_with r.plan xs) (fields q start s) (steps_with s.plan ys)

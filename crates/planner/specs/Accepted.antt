@@ -1,11 +1,11 @@
 -- What an accepted planning may rest on.
 use Rattle.std.specs.Prelude.{ℕ, ◌/◌, ◌≤◌, max, Bool, true, false, ◌||◌, List, [], ◌∷◌, ◌≡◌, ltb, length}
-use Rattle.std.proofs.Common.{ap, sym, subst, ◌∙◌, arith, ltb-false}
-use Rattle.costs.specs.Laws.{or_left, passed, kinds_length}
+use Rattle.std.proofs.Common.{ap, subst, arith, ltb-false}
+use Rattle.costs.specs.Laws.{or_left, passed}
 use Rattle.costs.specs.Table.{any_over, kinds_fault, prices_fault}
 use Rattle.replay.specs.Machine.{Rules, ruled}
 use Rattle.replay.specs.Beneath.{narrowed, too_tall, narrowed_most}
-use Rattle.replay.specs.declared.SearchCfg.{SearchCfg}
+use Rattle.replay.specs.declared.rules.SearchCfg.{SearchCfg}
 use Rattle.replay.specs.Replay.{reach_fault}
 use Rattle.replay.specs.Steps.{over_get}
 use Rattle.window.specs.Pack.{Keys}
@@ -13,7 +13,7 @@ use Rattle.star_swap.specs.Check.{Window}
 use Rattle.successors.specs.Limits.{Bounds}
 use Rattle.astar.specs.Search.{Allowance}
 use Rattle.run.specs.View.{allowance, Roomy}
-use Rattle.run.specs.declared.Limits.{Limits}
+use Rattle.run.specs.declared.Allowances.{Allowances}
 use Rattle.table.specs.Table as search
 use Rattle.solve.specs.View.{StartFits}
 use Rattle.planner.specs.Refusal.{Asked, Lent, narrow, allowance_fault, over_length, too_long, entries, short_lists, plan_table, plan_refusal}
@@ -142,7 +142,6 @@ module _ (a : Asked) (cfg : SearchCfg) (kinds : List ℕ) (ruled-by : a.rules �
   search_question =
       record {
         bounds = subst (λ (q : Rules). Bounds (record { rules = q; prices = a.prices; goal = a.goal })) ruled-by (bounds a l ok);
-        kinds_long = ap (λ (q : Rules). length q.kinds) (sym ruled-by) ∙ kinds_length a.rules.kinds ok.kinds;
         listed = ok.prices;
       }
 
@@ -150,10 +149,10 @@ module _ (a : Asked) (cfg : SearchCfg) (kinds : List ℕ) (ruled-by : a.rules �
   search_start = record { keys = keys_below a.start ok.start_keys; fits = subst (λ (q : Rules). length a.start ≤ q.max_len) ruled-by ok.start_fits }
 
 -- there is room in the work lists
-pub search_room : (a : Asked) (limits : Limits) (xs os : List ℕ) (l : Lent) → a.allowance ≡ allowance limits → l.nodes ≡ length xs → l.list ≡ length os → Accepted a l → Roomy limits xs os
+pub search_room : (a : Asked) (limits : Allowances) (xs os : List ℕ) (l : Lent) → a.allowance ≡ allowance limits → l.nodes ≡ length xs → l.list ≡ length os → Accepted a l → Roomy limits xs os
 search_room a limits xs os l e f g ok =
-    let w : a.allowance.states_without ≡ limits.plain = ap (λ (A : Allowance). A.states_without) e in
-    let v : a.allowance.states_with ≡ limits.held = ap (λ (A : Allowance). A.states_with) e in
+    let w : a.allowance.states_without ≡ limits.states_without = ap (λ (A : Allowance). A.states_without) e in
+    let v : a.allowance.states_with ≡ limits.states_with = ap (λ (A : Allowance). A.states_with) e in
     let n = ok.nodes in
     let m = ok.list in
-    record { plain_nodes = omega arith; held_nodes = omega arith; plain_list = omega arith; held_list = omega arith }
+    record { nodes_without = omega arith; nodes_with = omega arith; list_without = omega arith; list_with = omega arith }

@@ -1,6 +1,7 @@
 -- What holds of every answer of the planner as its caller gets it: of the fields and of the first `step_count` entries of the step list.
 use Rattle.std.specs.Prelude.{ℕ, zero, suc, ◌+◌, ◌≤◌, max, true, false, List, [], ◌≡◌, refl, eqb, length, take}
-use Rattle.std.proofs.Math.Option.{Option, none, some, some-injective}
+use Rattle.std.specs.Prelude.{Option, None, Some}
+use Rattle.astar.specs.Maybe.{some_injective}
 use Rattle.std.proofs.Common.{ap, sym, ◌∙◌, subst, arith, ne_eqb}
 use Rattle.costs.specs.Choice.{◌if◌otherwise◌}
 use Rattle.costs.specs.Cost.{no_more}
@@ -35,8 +36,8 @@ pub record InBounds (a : Asked) (r : Answer) : Type 0 where
   pub no_window : r.found ≡ 0 → r.highest ≡ 0
 
 fields_bounded : (a : Asked) (o : Option (Found Cost ℕ)) (e x : ℕ) → length a.start ≤ (narrowed a.rules).max_len → x ≤ a.allowance.expansions → e ≤ 5 → InBounds a (fields_of (narrowed a.rules) a.start o e x)
-fields_bounded a none e x f h k = record { few_expansions = h; ending_most = k; highest_most = omega arith; no_window = λ _. refl }
-fields_bounded a (some p) e x f h k = record { few_expansions = h; ending_most = k; highest_most = highest_fits (narrowed a.rules) p.steps a.start f; no_window = λ z. absurd (omega arith) }
+fields_bounded a None e x f h k = record { few_expansions = h; ending_most = k; highest_most = omega arith; no_window = λ _. refl }
+fields_bounded a (Some p) e x f h k = record { few_expansions = h; ending_most = k; highest_most = highest_fits (narrowed a.rules) p.steps a.start f; no_window = λ z. absurd (omega arith) }
 
 accepted_bounded : (a : Asked) (l : Lent) → Accepted (narrow a) l → InBounds a (fields_of (narrowed a.rules) a.start (answered (narrow a)).plan (answered (narrow a)).ending (answered (narrow a)).expansions)
 unfolding answered
@@ -82,19 +83,19 @@ pub record SoundAnswer (a : Asked) (r : Answer) (xs : List ℕ) : Type 0 where
   pub stack : a.rules.beneath + r.highest ≤ 1024
 
 -- ending 0: the plan of no steps
-no_steps_lem : (a : Asked) (p : Found Cost ℕ) → (answered a).plan ≡ some p → (answered a).ending ≡ 0 → p.steps ≡ []
+no_steps_lem : (a : Asked) (p : Found Cost ℕ) → (answered a).plan ≡ Some p → (answered a).ending ≡ 0 → p.steps ≡ []
 unfolding answered
 no_steps_lem a p f z =
     let e = planned_still gas_bytes (problem_of (question_of a) a.start) a.allowance (listed a.prices) 50 (before a).bound (plan_held (before a)) z in
-    ap (λ (x : Found Cost ℕ). x.steps) (some-injective p no_steps (sym f ∙ e))
+    ap (λ (x : Found Cost ℕ). x.steps) (some_injective p no_steps (sym f ∙ e))
 
-plan_fields : (a : Asked) (l : Lent) (steps : List ℕ) → plan_refusal a l ≡ 0 → (o : Option (Found Cost ℕ)) (e x : ℕ) (p : Found Cost ℕ) → o ≡ some p → (answered (narrow a)).plan ≡ some p →
+plan_fields : (a : Asked) (l : Lent) (steps : List ℕ) → plan_refusal a l ≡ 0 → (o : Option (Found Cost ℕ)) (e x : ℕ) (p : Found Cost ℕ) → o ≡ Some p → (answered (narrow a)).plan ≡ Some p →
     (e ≡ 0 → p.steps ≡ []) →
     SoundAnswer a (fields_of (narrowed a.rules) a.start o e x) (steps_with o steps)
 plan_fields a l steps h o e x p i f z =
     let ok = accepted a l h in
     let s : Sound (narrow a) p = plan_sound (narrow a) l ok p f in
-    let t : take (length p.steps) (steps_with (some p) steps) ≡ p.steps = taken (narrowed a.rules) a.start (some p) e x steps in
+    let t : take (length p.steps) (steps_with (Some p) steps) ≡ p.steps = taken (narrowed a.rules) a.start (Some p) e x steps in
     rw i
     (record {
       replays = rw t s.replays;

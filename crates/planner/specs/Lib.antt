@@ -1,5 +1,6 @@
 pub mod Refusal
 pub mod Planned
+pub mod Given
 pub mod Accepted
 pub mod Steady
 pub mod Sound

@@ -1,7 +1,7 @@
 -- A plan that is given, replayed and marked with its own ceiling: it ends at the goal, is marked 0, and its highest window is told alike.
 use Rattle.std.specs.Prelude.{ℕ, ◌+◌, ◌≤◌, false, List, ◌≡◌, length}
 use Rattle.std.proofs.Math.Bool.{true}
-use Rattle.std.proofs.Math.Option.{some}
+use Rattle.std.specs.Prelude.{Some}
 use Rattle.std.proofs.Math.Path.{ap, sym}
 use Rattle.std.proofs.Common.{◌∙◌, arith, le-ltb}
 use Rattle.costs.specs.Cost.{no_more}
@@ -46,7 +46,7 @@ mark_accepted a l ok on n h =
 few_steps : (a : Asked) (l : Lent) (ok : Accepted a l) (p : Found Cost ℕ) → Sound a p → length p.steps ≤ 65536
 few_steps a l ok p s = omega (arith, s.few, ok.expansions)
 
-module _ (a : Asked) (l : Lent) (h : plan_refusal a l ≡ 0) (p : Found Cost ℕ) (f : (answered (narrow a)).plan ≡ some p) where
+module _ (a : Asked) (l : Lent) (h : plan_refusal a l ≡ 0) (p : Found Cost ℕ) (f : (answered (narrow a)).plan ≡ Some p) where
   own : Sound (narrow a) p
   own = plan_sound (narrow a) l (accepted a l h) p f
 

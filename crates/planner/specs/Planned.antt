@@ -1,6 +1,6 @@
 -- What the planner answers.
 use Rattle.std.specs.Prelude.{ℕ, List, ◌++◌, ◌≡◌, eqb, length, drop}
-use Rattle.std.proofs.Math.Option.{Option, none, some}
+use Rattle.std.specs.Prelude.{Option, None, Some}
 use Rattle.costs.specs.Choice.{◌if◌otherwise◌}
 use Rattle.costs.specs.declared.Cost.{Cost}
 use Rattle.costs.specs.Price.{price_of}
@@ -25,7 +25,7 @@ listed prices code = price_of prices (decoded code)
 
 -- the builders' plan in hand, at its cost; none at origin 0
 abbrev pub plan_held : Held → Option (Found Cost ℕ)
-plan_held h = none if eqb h.origin 0 otherwise some (record { origin = h.origin; steps = h.plan; cost = h.bound; ceiling = h.bound })
+plan_held h = None if eqb h.origin 0 otherwise Some (record { origin = h.origin; steps = h.plan; cost = h.bound; ceiling = h.bound })
 
 -- the bound and the plan before the search (document 01, "A bound before the search")
 abbrev pub before : Asked → Held
@@ -55,8 +55,8 @@ bare_of refusal found ending expansions high =
 
 -- the fields, without a plan and with one (document 01, "The planner's answer"); the highest window is that of the plan's steps (request U1)
 abbrev pub fields_of : Rules → (start : List ℕ) → Option (Found Cost ℕ) → (ending expansions : ℕ) → Answer
-fields_of q start none ending expansions = bare_of 0 0 ending expansions 0
-fields_of q start (some p) ending expansions =
+fields_of q start None ending expansions = bare_of 0 0 ending expansions 0
+fields_of q start (Some p) ending expansions =
     record {
       refusal = 0;
       found = 1;
@@ -77,8 +77,8 @@ refused n = bare_of n 0 0 0 0
 
 -- the step list: the plan over its first places, behind it what stood there
 abbrev pub steps_with : Option (Found Cost ℕ) → List ℕ → List ℕ
-steps_with none old = old
-steps_with (some p) old = p.steps ++ drop (length p.steps) old
+steps_with None old = old
+steps_with (Some p) old = p.steps ++ drop (length p.steps) old
 
 -- an answer's fields and its step list
 abbrev pub given : Rules → (start : List ℕ) → Answered Cost ℕ → List ℕ → Answer × List ℕ

@@ -3,7 +3,8 @@ use Rattle.std.specs.Prelude.{ℕ, suc, ◌≤◌, max, Bool, true, false, ◌�
 use mathlib.Core.List.{List, [], ◌∷◌}
 use Rattle.std.proofs.Common.{inl, inr, sym, ◌∙◌, le_refl, eqb→eq}
 use Rattle.std.proofs.Math.Logic.{⊎_elim}
-use Rattle.std.proofs.Math.Option.{Option, none, some, some-injective}
+use Rattle.std.specs.Prelude.{Option, None, Some}
+use Rattle.astar.specs.Maybe.{some_injective}
 use Rattle.std.proofs.Math.Path.{ap, subst}
 use native.Mathlib.Omega.{arith}
 use Rattle.std.proofs.Math.ListN.{length, length-map}
@@ -70,30 +71,30 @@ module _ (a : Asked) (l : Lent) (ok : Accepted a l) where
 
   -- the builders' plan
   held_if : (h : Held) (p : Found Cost ℕ) (b : Bool) → eqb h.origin 0 ≡ b → builder.Sound a.prices a.rules a.start a.goal h →
-      (none if b otherwise some (record { origin = h.origin; steps = h.plan; cost = h.bound; ceiling = h.bound })) ≡ some p → Sound a p
+      (None if b otherwise Some (record { origin = h.origin; steps = h.plan; cost = h.bound; ceiling = h.bound })) ≡ Some p → Sound a p
   held_if h p true e s f = let z : ◌≡◌ {A = ℕ} 0 1 = cc in absurd (omega arith)
   held_if h p false e (inl s) f = let z : ◌≡◌ {A = Bool} true false = sym (ap (λ (n : ℕ). eqb n 0) s.origin) ∙ e in absurd (let y : ◌≡◌ {A = ℕ} 0 1 = cc in omega arith)
   held_if h p false e (inr s) f =
-      subst (Sound a) (some-injective (record { origin = h.origin; steps = h.plan; cost = h.bound; ceiling = h.bound }) p f)
+      subst (Sound a) (some_injective (record { origin = h.origin; steps = h.plan; cost = h.bound; ceiling = h.bound }) p f)
       (record { replays = s.leads.replays; cost_is = s.bound; few = omega (arith, s.leads.few) })
 
-  held_sound : (p : Found Cost ℕ) → held ≡ some p → Sound a p
+  held_sound : (p : Found Cost ℕ) → held ≡ Some p → Sound a p
   held_sound p f =
       held_if (before a) p (eqb (before a).origin 0) refl
       (builder.in_hand_sound a.prices a.rules a.start a.goal (start_window a l ok) (goal_window a l ok) ok.window ok.kinds) f
 
   -- the cost of a plan read back is the sum of its steps
-  read_cost : (g : Cost) (o : Option (List ℕ)) (p : Found Cost ℕ) → read_at gas_bytes Q (listed a.prices) 50 (before a).bound held g o ≡ some p → p.cost ≡ sum_steps gas_bytes (listed a.prices) gas_bytes.𝟘 p.steps
-  read_cost g none p f = let z : ◌≡◌ {A = ℕ} 0 1 = cc in absurd (omega arith)
-  read_cost g (some bs) p f =
+  read_cost : (g : Cost) (o : Option (List ℕ)) (p : Found Cost ℕ) → read_at gas_bytes Q (listed a.prices) 50 (before a).bound held g o ≡ Some p → p.cost ≡ sum_steps gas_bytes (listed a.prices) gas_bytes.𝟘 p.steps
+  read_cost g None p f = let z : ◌≡◌ {A = ℕ} 0 1 = cc in absurd (omega arith)
+  read_cost g (Some bs) p f =
       subst (λ (x : Found Cost ℕ). x.cost ≡ sum_steps gas_bytes (listed a.prices) gas_bytes.𝟘 x.steps)
-      (some-injective (record { origin = 3; steps = bs; cost = sum_steps gas_bytes (listed a.prices) gas_bytes.𝟘 bs; ceiling = g }) p f) refl
+      (some_injective (record { origin = 3; steps = bs; cost = sum_steps gas_bytes (listed a.prices) gas_bytes.𝟘 bs; ceiling = g }) p f) refl
 
-  last_cost : (o : Option Cost) (k : ℕ) (ns : List (Node Cost ℕ)) (p : Found Cost ℕ) → plan_at gas_bytes Q (listed a.prices) 50 (before a).bound held o k ns ≡ some p → p.cost ≡ cost_for_steps a.prices p.steps
-  last_cost none k ns p f = (held_sound p f).cost_is
-  last_cost (some g) k ns p f = read_cost g (read_back gas_bytes Q (suc k) ns (pack 6 a.goal) []) p f ∙ sum_steps_lem a.prices gas_bytes.𝟘 p.steps (omega arith) (omega arith)
+  last_cost : (o : Option Cost) (k : ℕ) (ns : List (Node Cost ℕ)) (p : Found Cost ℕ) → plan_at gas_bytes Q (listed a.prices) 50 (before a).bound held o k ns ≡ Some p → p.cost ≡ cost_for_steps a.prices p.steps
+  last_cost None k ns p f = (held_sound p f).cost_is
+  last_cost (Some g) k ns p f = read_cost g (read_back gas_bytes Q (suc k) ns (pack 6 a.goal) []) p f ∙ sum_steps_lem a.prices gas_bytes.𝟘 p.steps (omega arith) (omega arith)
 
-  reached_sound : (s : Search Cost ℕ) → Reach gas_bytes Q A s s₀ → (p : Found Cost ℕ) → plan_of gas_bytes Q (listed a.prices) 50 (before a).bound held s ≡ some p → Sound a p
+  reached_sound : (s : Search Cost ℕ) → Reach gas_bytes Q A s s₀ → (p : Found Cost ℕ) → plan_of gas_bytes Q (listed a.prices) 50 (before a).bound held s ≡ Some p → Sound a p
   unfolding plan_of
   reached_sound s r p f =
       ⊎_elim (held_sound p)
@@ -106,22 +107,22 @@ module _ (a : Asked) (l : Lent) (ok : Accepted a l) where
       (plan_source gas_bytes Q (listed a.prices) 50 30000 limited (before a).bound held A (domain_fits A.expansions ok.expansions) s r p f)
 
   -- the start is the goal
-  none_needed : T (eqb (pack 6 a.start) (pack 6 a.goal)) → (p : Found Cost ℕ) → ◌≡◌ {A = Option (Found Cost ℕ)} (some (record { origin = 0; steps = []; cost = gas_bytes.𝟘; ceiling = gas_bytes.𝟘 })) (some p) → Sound a p
+  none_needed : T (eqb (pack 6 a.start) (pack 6 a.goal)) → (p : Found Cost ℕ) → ◌≡◌ {A = Option (Found Cost ℕ)} (Some (record { origin = 0; steps = []; cost = gas_bytes.𝟘; ceiling = gas_bytes.𝟘 })) (Some p) → Sound a p
   unfolding ran_on
   none_needed t p f =
       let e : a.start ≡ a.goal = pack_inj 6 (omega arith) a.start a.goal (keys_below a.start ok.start_keys) (keys_below a.goal ok.goal_keys) (eqb→eq (pack 6 a.start) (pack 6 a.goal) t) in
-      subst (Sound a) (some-injective (record { origin = 0; steps = []; cost = gas_bytes.𝟘; ceiling = gas_bytes.𝟘 }) p f)
+      subst (Sound a) (some_injective (record { origin = 0; steps = []; cost = gas_bytes.𝟘; ceiling = gas_bytes.𝟘 }) p f)
       (record { replays = ap ends e; cost_is = refl; few = omega arith })
 
-  pub plan_sound : (p : Found Cost ℕ) → (answered a).plan ≡ some p → Sound a p
+  pub plan_sound : (p : Found Cost ℕ) → (answered a).plan ≡ Some p → Sound a p
   unfolding answered planned searched
   plan_sound =
-      by_cond (λ (r : Answered Cost ℕ). (p : Found Cost ℕ) → r.plan ≡ some p → Sound a p) (eqb (pack 6 a.start) (pack 6 a.goal)) none_needed
-      (λ _. by_cond (λ (r : Answered Cost ℕ). (p : Found Cost ℕ) → r.plan ≡ some p → Sound a p) (eqb A.expansions 0)
+      by_cond (λ (r : Answered Cost ℕ). (p : Found Cost ℕ) → r.plan ≡ Some p → Sound a p) (eqb (pack 6 a.start) (pack 6 a.goal)) none_needed
+      (λ _. by_cond (λ (r : Answered Cost ℕ). (p : Found Cost ℕ) → r.plan ≡ Some p → Sound a p) (eqb A.expansions 0)
       (λ _. reached_sound s₀ (here refl))
       (λ _. let d = search_ends gas_bytes Q 50 30000 limited A (before a).bound (given held) in
       reached_sound (run gas_bytes Q A (enough gas_bytes Q 50 A) s₀).final d.ends.reached))
 
   -- a plan costs no more than its ceiling
-  pub plan_within : (p : Found Cost ℕ) → (answered a).plan ≡ some p → T (gas_bytes.le p.cost p.ceiling)
+  pub plan_within : (p : Found Cost ℕ) → (answered a).plan ≡ Some p → T (gas_bytes.le p.cost p.ceiling)
   plan_within p f = (steady_answers a A A l (record { more_expansions = le_refl _; more_without = le_refl _; more_with = le_refl _ }) ok).within_a p f

@@ -1,7 +1,8 @@
 -- Demand 3: what two answers to one question have to do with each other, of their fields and step lists as callers hold them.
 use Rattle.std.specs.Prelude.{ℕ, Bool, true, false, List, [], ◌≡◌, refl, T, eqb, length, take, drop}
 use Rattle.std.proofs.Common.{sym, ◌∙◌, subst, arith, take_at}
-use Rattle.std.proofs.Math.Option.{Option, none, some, some-injective}
+use Rattle.std.specs.Prelude.{Option, None, Some}
+use Rattle.astar.specs.Maybe.{some_injective}
 use Rattle.costs.specs.Choice.{◌if◌otherwise◌}
 use Rattle.costs.specs.Cost.{no_more}
 use Rattle.costs.specs.declared.Cost.{Cost}
@@ -51,12 +52,12 @@ pub record Demand3 (r : Answer) (xs : List ℕ) (s : Answer) (ys : List ℕ) : T
 abbrev own : Held → Found Cost ℕ
 own h = record { origin = h.origin; steps = h.plan; cost = h.bound; ceiling = h.bound }
 
-held_if : (h : Held) (p : Found Cost ℕ) (b : Bool) → (none if b otherwise some (own h)) ≡ some p → (p.ceiling ≡ h.bound) × T (gas_bytes.le p.cost p.ceiling)
+held_if : (h : Held) (p : Found Cost ℕ) (b : Bool) → (None if b otherwise Some (own h)) ≡ Some p → (p.ceiling ≡ h.bound) × T (gas_bytes.le p.cost p.ceiling)
 held_if h p true e = let z : ◌≡◌ {A = ℕ} 0 1 = cc in absurd (omega arith)
 held_if h p false e =
-    subst (λ (x : Found Cost ℕ). (x.ceiling ≡ h.bound) × T (gas_bytes.le x.cost x.ceiling)) (some-injective (own h) p e) (refl, gas_bytes.order.reflexive h.bound)
+    subst (λ (x : Found Cost ℕ). (x.ceiling ≡ h.bound) × T (gas_bytes.le x.cost x.ceiling)) (some_injective (own h) p e) (refl, gas_bytes.order.reflexive h.bound)
 
-held_at : (h : Held) (p : Found Cost ℕ) → plan_held h ≡ some p → (p.ceiling ≡ h.bound) × T (gas_bytes.le p.cost p.ceiling)
+held_at : (h : Held) (p : Found Cost ℕ) → plan_held h ≡ Some p → (p.ceiling ≡ h.bound) × T (gas_bytes.le p.cost p.ceiling)
 held_at h p e = held_if h p (eqb h.origin 0) e
 
 -- ---- the answers before they become fields
@@ -76,19 +77,19 @@ le_more c d h = sym (le_is c d) ∙ T_true (gas_bytes.le c d) h
 
 -- the plan's steps
 abbrev pub plan_of : Option (Found Cost ℕ) → List ℕ
-plan_of none = []
-plan_of (some p) = p.steps
+plan_of None = []
+plan_of (Some p) = p.steps
 
 module _ (q : Rules) (start : List ℕ) where
   -- the fields of an answer, and its step list
   abbrev pub fields : Answered Cost ℕ → Answer
   fields r = fields_of q start r.plan r.ending r.expansions
 
-  pub no_plan : (o : Option (Found Cost ℕ)) (e x : ℕ) → (fields_of q start o e x).found ≡ 1 → (p : Found Cost ℕ) × (o ≡ some p)
-  no_plan none e x h = absurd (omega arith)
-  no_plan (some p) e x h = (p, refl)
+  pub no_plan : (o : Option (Found Cost ℕ)) (e x : ℕ) → (fields_of q start o e x).found ≡ 1 → (p : Found Cost ℕ) × (o ≡ Some p)
+  no_plan None e x h = absurd (omega arith)
+  no_plan (Some p) e x h = (p, refl)
 
   -- the first step_count entries of the step list are the plan, whatever was there
   pub taken : (o : Option (Found Cost ℕ)) (e x : ℕ) (xs : List ℕ) → take (fields_of q start o e x).step_count (steps_with o xs) ≡ plan_of o
-  taken none e x xs = refl
-  taken (some p) e x xs = take_at p.steps (drop (length p.steps) xs) (length p.steps) refl
+  taken None e x xs = refl
+  taken (Some p) e x xs = take_at p.steps (drop (length p.steps) xs) (length p.steps) refl

@@ -3,12 +3,10 @@ use Rattle.std.specs.Prelude.{ℕ, zero, suc, ◌+◌, ◌*◌, ◌/◌, ◌%◌
 use Rattle.std.proofs.Common.{sym, ap, subst, ⊎_elim, arith, mod-lt, pow_pos}
 use mathlib.Core.List.Memᴰ
 use mathlib.Core.List.{List, [], ◌∷◌, map, Memᴰ}
-use Rattle.std.proofs.Math.Option.{Option, none, some}
+use Rattle.std.specs.Prelude.{Option, None, Some}
 use Rattle.std.proofs.lemmas.List.{length-map}
 use Rattle.costs.specs.declared.Cost.{Cost}
 use Rattle.costs.specs.declared.Step.{Step}
-use Rattle.costs.specs.declared.Decoded.{Decoded}
-use Rattle.costs.specs.declared.Decoded.TheVariants.{Known, Unknown}
 use Rattle.costs.specs.Table.{prices_fault}
 use Rattle.costs.specs.Step.{pair_of, code_of, decoded}
 use Rattle.costs.specs.Laws.{OperandFits, decoded_code}
@@ -25,16 +23,16 @@ use Rattle.astar.specs.Search as search
 use Rattle.astar.specs.Room.{Bounded}
 
 -- the depth of the Swap just made, 0 if the step just made was none, by its code
-abbrev pub depth_in : Decoded → ℕ
-depth_in (Known s) = depth_of s
-depth_in Unknown = 0
+abbrev pub depth_in : Option Step → ℕ
+depth_in (Some s) = depth_of s
+depth_in None = 0
 
 abbrev pub depth_of_code : Option ℕ → ℕ
-depth_of_code none = 0
-depth_of_code (some c) = depth_in (decoded c)
+depth_of_code None = 0
+depth_of_code (Some c) = depth_in (decoded c)
 
 -- the same as that of the step
-pub depth_of_code_lem : (s : Step) → OperandFits s → depth_of_code (some (code_of s)) ≡ last_depth (some s)
+pub depth_of_code_lem : (s : Step) → OperandFits s → depth_of_code (Some (code_of s)) ≡ last_depth (Some s)
 depth_of_code_lem s f = ap depth_in (decoded_code s f)
 
 -- a successor of the window w: the window after a step, the step's listed price, the step

@@ -3,7 +3,7 @@ use Rattle.std.specs.Prelude.{ℕ, suc, ◌≤◌, ◌<◌, ◌≡◌, refl, tru
 use Rattle.std.proofs.Common.{◌∙◌, arith, ltb-true}
 use Rattle.std.proofs.Math.Path.{ap, subst}
 use mathlib.Core.List.{List, [], ◌∷◌, Memᴰ}
-use Rattle.std.proofs.Math.Option.{Option, some}
+use Rattle.std.specs.Prelude.{Option, Some}
 use Rattle.costs.specs.declared.Cost.{Cost}
 use Rattle.costs.specs.declared.Step.{Step}
 use Rattle.costs.specs.declared.Step.TheVariants.{Pop, Dup, Swap, PushImm, LoadVal}
@@ -79,7 +79,7 @@ module _ (q : Question) (b : Bounds q) (start : List ℕ) where
   -- a successor that one step of the machine leads to, within the greatest length, with keys below 64
   pub record Led (w : List ℕ) (x : search.Succ Cost ℕ) : Type 0 where
     pub window : List ℕ
-    pub leads : step_on q.rules (decoded x.by) w ≡ some window
+    pub leads : step_on q.rules (decoded x.by) w ≡ Some window
     pub packed : x.to ≡ pack 6 window
     pub keys : Keys 6 window
     pub fits : length window ≤ q.rules.max_len

@@ -1,14 +1,13 @@
 -- Laws of the popped keys.
 use Rattle.std.specs.Prelude.{ℕ, zero, suc, ◌+◌, ◌/◌, ◌%◌, ◌<◌, ◌≤◌, Bool, true, false, List, [], ◌∷◌, ◌++◌, ◌≡◌, refl, eqb, length, get_or, take, drop}
 use Rattle.std.proofs.Common.{append-nil, append_assoc, ap, sym, subst, ◌∙◌, arith, ne_eqb, lt-ltb, length-append, drop_of_length-le}
-use Rattle.std.proofs.Math.Option.{none, some}
+use Rattle.std.specs.Prelude.{None, Some, Option}
 use Rattle.costs.specs.Choice.{◌if◌otherwise◌}
 use Rattle.costs.specs.Laws.{drop_turn}
 use Rattle.costs.specs.Step.{decoded, of_kind}
 use Rattle.costs.specs.Table.{any_over, count_of}
 use Rattle.costs.specs.declared.Step.TheVariants.{Pop, Dup, Swap, PushImm, LoadVal}
-use Rattle.costs.specs.declared.Decoded.{Decoded}
-use Rattle.costs.specs.declared.Decoded.TheVariants.{Known, Unknown}
+use Rattle.costs.specs.declared.Step.{Step}
 use Rattle.replay.specs.Machine.{Rules, allows, step_on, ends, ran_on, gone_by, popped_on}
 use Rattle.replay.specs.Laws.{after_fits}
 use Rattle.replay.specs.Steps.{did, ran_none, ran_went, over_get, over_cons, keys_after}
@@ -19,7 +18,7 @@ unfolding popped_on
 popped_none q w = refl
 
 -- what the first step pops, then what the others pop off the window after it
-pub popped_goes : (q : Rules) (c : ℕ) (cs w v : List ℕ) → step_on q (decoded c) w ≡ some v → popped_on q (c ∷ cs) w ≡ gone_by (decoded c) w ++ popped_on q cs v
+pub popped_goes : (q : Rules) (c : ℕ) (cs w v : List ℕ) → step_on q (decoded c) w ≡ Some v → popped_on q (c ∷ cs) w ≡ gone_by (decoded c) w ++ popped_on q cs v
 unfolding popped_on
 popped_goes q c cs w v e = rw e
 
@@ -40,19 +39,19 @@ popped_append q i (c ∷ xs) ys w v e =
 kind_keeps : (k p : ℕ) (w : List ℕ) → gone_by (of_kind k p) w ≡ []
 kind_keeps k p w = one (eqb k 1)
   where
-    four : (b : Bool) → gone_by (Known (LoadVal p) if b otherwise Unknown) w ≡ []
+    four : (b : Bool) → gone_by (Some (LoadVal p) if b otherwise None) w ≡ []
     four true = refl
     four false = refl
 
-    three : (b : Bool) → gone_by (Known (PushImm p) if b otherwise Known (LoadVal p) if eqb k 4 otherwise Unknown) w ≡ []
+    three : (b : Bool) → gone_by (Some (PushImm p) if b otherwise Some (LoadVal p) if eqb k 4 otherwise None) w ≡ []
     three true = refl
     three false = four (eqb k 4)
 
-    two : (b : Bool) → gone_by (Known (Swap p) if b otherwise Known (PushImm p) if eqb k 3 otherwise Known (LoadVal p) if eqb k 4 otherwise Unknown) w ≡ []
+    two : (b : Bool) → gone_by (Some (Swap p) if b otherwise Some (PushImm p) if eqb k 3 otherwise Some (LoadVal p) if eqb k 4 otherwise None) w ≡ []
     two true = refl
     two false = three (eqb k 3)
 
-    one : (b : Bool) → gone_by (Known (Dup p) if b otherwise Known (Swap p) if eqb k 2 otherwise Known (PushImm p) if eqb k 3 otherwise Known (LoadVal p) if eqb k 4 otherwise Unknown) w ≡ []
+    one : (b : Bool) → gone_by (Some (Dup p) if b otherwise Some (Swap p) if eqb k 2 otherwise Some (PushImm p) if eqb k 3 otherwise Some (LoadVal p) if eqb k 4 otherwise None) w ≡ []
     one true = refl
     one false = two (eqb k 2)
 
@@ -61,7 +60,7 @@ unfolding decoded
 code_keeps c w h = rw (ne_eqb c 0 h) (kind_keeps (c / 256) (c % 256) w)
 
 -- a step that is not allowed pops nothing
-pop_stopped : (q : Rules) (w : List ℕ) → step_on q (Known Pop) w ≡ none → take 1 w ≡ []
+pop_stopped : (q : Rules) (w : List ℕ) → step_on q (Some Pop) w ≡ None → take 1 w ≡ []
 unfolding allows
 pop_stopped q [] h = refl
 pop_stopped q (k ∷ w) h =
@@ -70,23 +69,23 @@ pop_stopped q (k ∷ w) h =
     let z : ◌≡◌ {A = ℕ} 0 1 = cc in
     absurd (omega arith)
 
-stopped_keeps : (q : Rules) (d : Decoded) (w : List ℕ) → step_on q d w ≡ none → gone_by d w ≡ []
-stopped_keeps q (Known Pop) w h = pop_stopped q w h
-stopped_keeps q (Known (Dup p)) w h = refl
-stopped_keeps q (Known (Swap d)) w h = refl
-stopped_keeps q (Known (PushImm k)) w h = refl
-stopped_keeps q (Known (LoadVal k)) w h = refl
-stopped_keeps q Unknown w h = refl
+stopped_keeps : (q : Rules) (d : Option Step) (w : List ℕ) → step_on q d w ≡ None → gone_by d w ≡ []
+stopped_keeps q (Some Pop) w h = pop_stopped q w h
+stopped_keeps q (Some (Dup p)) w h = refl
+stopped_keeps q (Some (Swap d)) w h = refl
+stopped_keeps q (Some (PushImm k)) w h = refl
+stopped_keeps q (Some (LoadVal k)) w h = refl
+stopped_keeps q None w h = refl
 
-pub popped_stops : (q : Rules) (c : ℕ) (cs w : List ℕ) → step_on q (decoded c) w ≡ none → popped_on q (c ∷ cs) w ≡ []
+pub popped_stops : (q : Rules) (c : ℕ) (cs w : List ℕ) → step_on q (decoded c) w ≡ None → popped_on q (c ∷ cs) w ≡ []
 unfolding popped_on
 popped_stops q c cs w e = rw e (append-nil (gone_by (decoded c) w) ∙ stopped_keeps q (decoded c) w e)
 
 -- one turn of a walk over the codes
-pub popped_turn_stops : (q : Rules) (l : List ℕ) (i : ℕ) (w : List ℕ) → i < length l → step_on q (decoded (get_or l i 0)) w ≡ none → popped_on q (drop i l) w ≡ []
+pub popped_turn_stops : (q : Rules) (l : List ℕ) (i : ℕ) (w : List ℕ) → i < length l → step_on q (decoded (get_or l i 0)) w ≡ None → popped_on q (drop i l) w ≡ []
 popped_turn_stops q l i w h e = rw (drop_turn l i h) (popped_stops q (get_or l i 0) (drop (i + 1) l) w e)
 
-pub popped_turn_goes : (q : Rules) (l : List ℕ) (i : ℕ) (w v : List ℕ) → i < length l → step_on q (decoded (get_or l i 0)) w ≡ some v →
+pub popped_turn_goes : (q : Rules) (l : List ℕ) (i : ℕ) (w v : List ℕ) → i < length l → step_on q (decoded (get_or l i 0)) w ≡ Some v →
     popped_on q (drop i l) w ≡ gone_by (decoded (get_or l i 0)) w ++ popped_on q (drop (i + 1) l) v
 popped_turn_goes q l i w v h e = rw (drop_turn l i h) (popped_goes q (get_or l i 0) (drop (i + 1) l) w v e)
 
@@ -94,7 +93,7 @@ pub popped_ends : (q : Rules) (l : List ℕ) (i : ℕ) (w : List ℕ) → length
 popped_ends q l i w h = rw (drop_of_length-le l h) (popped_none q w)
 
 -- a Pop that is allowed takes the top key
-pub pop_takes : (q : Rules) (w v : List ℕ) → step_on q (decoded 0) w ≡ some v → (0 < length w) × (gone_by (decoded 0) w ≡ get_or w 0 0 ∷ [])
+pub pop_takes : (q : Rules) (w v : List ℕ) → step_on q (decoded 0) w ≡ Some v → (0 < length w) × (gone_by (decoded 0) w ≡ get_or w 0 0 ∷ [])
 unfolding decoded allows
 pop_takes q [] v h = let z : ◌≡◌ {A = ℕ} 0 1 = cc in absurd (omega arith)
 pop_takes q (k ∷ w) v h = (omega arith, refl)
@@ -113,7 +112,7 @@ record One (c : ℕ) (w : List ℕ) : Type 0 where
   low : any_over 63 w ≡ false → (l : List ℕ) → any_over 63 l ≡ false → any_over 63 (gone_by (decoded c) w ++ l) ≡ false
   count : (n : ℕ) → length (gone_by (decoded c) w) + n ≡ (suc n if eqb c 0 otherwise n)
 
-one_of : (q : Rules) (c : ℕ) (w v : List ℕ) → step_on q (decoded c) w ≡ some v → One c w
+one_of : (q : Rules) (c : ℕ) (w v : List ℕ) → step_on q (decoded c) w ≡ Some v → One c w
 one_of q zero w v s =
     let t = pop_takes q w v s in
     record {

@@ -1,6 +1,6 @@
 -- Laws of the stack machine for callers: what a step needs and does, a run by its first step, and replay in two parts.
 use Rattle.std.specs.Prelude.{ℕ, zero, suc, ◌+◌, ◌-◌, ◌<◌, ◌≤◌, Bool, true, false, ◌&&◌, List, [], ◌∷◌, ◌++◌, ◌≡◌, refl, ltb, length, get_or, set, drop}
-use Rattle.std.proofs.Math.Option.{Option, none, some}
+use Rattle.std.specs.Prelude.{Option, None, Some}
 use Rattle.std.proofs.Common.{ap, ap₂, sym, ◌∙◌, arith, ltb-true, ltb-false, lt-ltb, le-ltb, length-set, length-drop, get_or-set_same, set-set}
 use Rattle.std.proofs.lemmas.List.{set-get_or}
 use Rattle.costs.specs.Choice.{◌if◌otherwise◌}
@@ -9,8 +9,6 @@ use Rattle.costs.specs.Step.{decoded}
 use Rattle.costs.specs.Table.{any_over}
 use Rattle.costs.specs.declared.Step.{Step}
 use Rattle.costs.specs.declared.Step.TheVariants.{Pop, Dup, Swap, PushImm, LoadVal}
-use Rattle.costs.specs.declared.Decoded.{Decoded}
-use Rattle.costs.specs.declared.Decoded.TheVariants.{Known, Unknown}
 use Rattle.replay.specs.Laws.{and_left, and_right, or_rest, immediate_key, value_key}
 use Rattle.replay.specs.Machine.{Rules, room, immediate, value, allows, after, step_on, onward, Outcome, refuses, stops, ends, ran_on}
 
@@ -79,21 +77,21 @@ swap_twice (suc d) (x ∷ w) h l =
     (set-set w d x (get_or w d 0) ∙ set-get_or w d 0)
 
 -- what a step that led from v to w did
-pub record Did (q : Rules) (d : Decoded) (v w : List ℕ) (s : Step) : Type 0 where
-  pub code : d ≡ Known s
+pub record Did (q : Rules) (d : Option Step) (v w : List ℕ) (s : Step) : Type 0 where
+  pub code : d ≡ Some s
   pub allowed : allows q s (length v) ≡ true
   pub leads : after s v ≡ w
 
-pub did : (q : Rules) (d : Decoded) (v w : List ℕ) → step_on q d v ≡ some w → (s : Step) × Did q d v w s
-did q (Known s) v w h = go (allows q s (length v)) refl h
+pub did : (q : Rules) (d : Option Step) (v w : List ℕ) → step_on q d v ≡ Some w → (s : Step) × Did q d v w s
+did q (Some s) v w h = go (allows q s (length v)) refl h
   where
-    go : (b : Bool) → allows q s (length v) ≡ b → (some (after s v) if b otherwise none) ≡ some w → (t : Step) × Did q (Known s) v w t
+    go : (b : Bool) → allows q s (length v) ≡ b → (Some (after s v) if b otherwise None) ≡ Some w → (t : Step) × Did q (Some s) v w t
     go true a e = (s, record { code = refl; allowed = a; leads = cc })
     go false a e = let z : ◌≡◌ {A = ℕ} 0 1 = cc in absurd (omega arith)
-did q Unknown v w h = let z : ◌≡◌ {A = ℕ} 0 1 = cc in absurd (omega arith)
+did q None v w h = let z : ◌≡◌ {A = ℕ} 0 1 = cc in absurd (omega arith)
 
 -- and that it did so
-pub does : (q : Rules) (d : Decoded) (v w : List ℕ) (s : Step) → Did q d v w s → step_on q d v ≡ some w
+pub does : (q : Rules) (d : Option Step) (v w : List ℕ) (s : Step) → Did q d v w s → step_on q d v ≡ Some w
 does q d v w s k = rw (k.code, k.allowed, k.leads)
 
 -- ---- keys stay below 64
@@ -135,18 +133,18 @@ pub ran_none : (q : Rules) (i : ℕ) (w : List ℕ) → ran_on q i [] w ≡ ends
 unfolding ran_on
 ran_none q i w = refl
 
-pub ran_goes : (q : Rules) (i c : ℕ) (cs w v : List ℕ) → step_on q (decoded c) w ≡ some v → ran_on q i (c ∷ cs) w ≡ ran_on q (suc i) cs v
+pub ran_goes : (q : Rules) (i c : ℕ) (cs w v : List ℕ) → step_on q (decoded c) w ≡ Some v → ran_on q i (c ∷ cs) w ≡ ran_on q (suc i) cs v
 unfolding ran_on
 ran_goes q i c cs w v e = rw e
 
 -- a run that ends went on from a window after its first step
-pub ran_went : (q : Rules) (i c : ℕ) (cs w end : List ℕ) → ran_on q i (c ∷ cs) w ≡ ends end → (v : List ℕ) × (step_on q (decoded c) w ≡ some v) × (ran_on q (suc i) cs v ≡ ends end)
+pub ran_went : (q : Rules) (i c : ℕ) (cs w end : List ℕ) → ran_on q i (c ∷ cs) w ≡ ends end → (v : List ℕ) × (step_on q (decoded c) w ≡ Some v) × (ran_on q (suc i) cs v ≡ ends end)
 unfolding ran_on
 ran_went q i c cs w end e = go (step_on q (decoded c) w) e
   where
-    go : (o : Option (List ℕ)) → onward i (λ v. ran_on q (suc i) cs v) o ≡ ends end → (v : List ℕ) × (o ≡ some v) × (ran_on q (suc i) cs v ≡ ends end)
-    go none h = let z : ◌≡◌ {A = ℕ} 0 1 = cc in absurd (omega arith)
-    go (some v) h = (v, refl, h)
+    go : (o : Option (List ℕ)) → onward i (λ v. ran_on q (suc i) cs v) o ≡ ends end → (v : List ℕ) × (o ≡ Some v) × (ran_on q (suc i) cs v ≡ ends end)
+    go None h = let z : ◌≡◌ {A = ℕ} 0 1 = cc in absurd (omega arith)
+    go (Some v) h = (v, refl, h)
 
 -- ---- replay in two parts
 
@@ -165,8 +163,8 @@ ran_append q i (x ∷ xs) ys w = go (λ v. ran_append q (suc i) xs ys v) (step_o
     shift = omega arith
 
     go : ((v : List ℕ) → ran_on q (suc i) (xs ++ ys) v ≡ continued (λ u. ran_on q (suc i + length xs) ys u) (ran_on q (suc i) xs v)) → (o : Option (List ℕ)) → onward i (λ v. ran_on q (suc i) (xs ++ ys) v) o ≡ continued (λ v. ran_on q (i + suc (length xs)) ys v) (onward i (λ v. ran_on q (suc i) xs v) o)
-    go h none = refl
-    go h (some v) = h v ∙ ap (λ (j : ℕ). continued (λ u. ran_on q j ys u) (ran_on q (suc i) xs v)) shift
+    go h None = refl
+    go h (Some v) = h v ∙ ap (λ (j : ℕ). continued (λ u. ran_on q j ys u) (ran_on q (suc i) xs v)) shift
 
 -- the second part starts where the first ended
 pub ran_then : (q : Rules) (i : ℕ) (xs ys w v : List ℕ) → ran_on q i xs w ≡ ends v → ran_on q i (xs ++ ys) w ≡ ran_on q (i + length xs) ys v

@@ -36,6 +36,7 @@ pub fn retrace(
     let forth = replay::replay(
         start, steps, dup_max, swap_max, max_len, beneath, kinds, res, popped,
     );
+    // The answers are those that C gets, so a refusal is a number.
     if forth.refusal != 0 {
         let back = Rewound {
             refusal: forth.refusal,

@@ -1,6 +1,6 @@
 -- Stepping back as its caller gets it: the start is given exactly where some start led here, and 11 exactly where none did.
 use Rattle.std.specs.Prelude.{ℕ, zero, suc, ◌<◌, ◌≤◌, Bool, true, false, ◌||◌, List, ◌↔◌, ◌≡◌, refl, length, take, drop, ltb}
-use Rattle.std.proofs.Math.Option.{Option, none, some}
+use Rattle.std.specs.Prelude.{Option, None, Some}
 use Rattle.std.proofs.Common.{ap, sym, subst, ◌∙◌, arith, take_at}
 use Rattle.costs.specs.Choice.{◌if◌otherwise◌}
 use Rattle.costs.specs.Table.{any_over, kinds_fault}
@@ -21,28 +21,28 @@ given_one a b old e =
     let t : over a old ≡ over b old = ap (λ (x : Rewound × List ℕ). x.1) e in
     sym (take_at a (drop (length a) old) (length b) n) ∙ ap (take (length b)) t ∙ take_at b (drop (length b) old) (length b) refl
 
-given_found : (o : Option (List ℕ)) (start old : List ℕ) → found o old ≡ given start old → o ≡ some start
-given_found none start old e = let z : ◌≡◌ {A = ℕ} 11 0 = ap (λ (x : Rewound × List ℕ). x.0.refusal) e in absurd (omega arith)
-given_found (some w) start old e = ap (λ (x : List ℕ). some x) (given_one w start old e)
+given_found : (o : Option (List ℕ)) (start old : List ℕ) → found o old ≡ given start old → o ≡ Some start
+given_found None start old e = let z : ◌≡◌ {A = ℕ} 11 0 = ap (λ (x : Rewound × List ℕ). x.0.refusal) e in absurd (omega arith)
+given_found (Some w) start old e = ap (λ (x : List ℕ). Some x) (given_one w start old e)
 
-none_found : (o : Option (List ℕ)) (old : List ℕ) → (found o old).0.refusal ≡ 11 → o ≡ none
-none_found none old e = refl
-none_found (some w) old e = absurd (omega arith)
+none_found : (o : Option (List ℕ)) (old : List ℕ) → (found o old).0.refusal ≡ 11 → o ≡ None
+none_found None old e = refl
+none_found (Some w) old e = absurd (omega arith)
 
-some_found : (o : Option (List ℕ)) (old : List ℕ) → (found o old).0.refusal ≡ 0 → (w : List ℕ) × (o ≡ some w)
-some_found none old e = absurd (omega arith)
-some_found (some w) old e = (w, refl)
+some_found : (o : Option (List ℕ)) (old : List ℕ) → (found o old).0.refusal ≡ 0 → (w : List ℕ) × (o ≡ Some w)
+some_found None old e = absurd (omega arith)
+some_found (Some w) old e = (w, refl)
 
 not_eight : (o : Option (List ℕ)) (old : List ℕ) → (found o old).0.refusal ≡ 8 → ⊥
-not_eight none old e = omega arith
-not_eight (some w) old e = omega arith
+not_eight None old e = omega arith
+not_eight (Some w) old e = omega arith
 
-no_start : (o : Option (List ℕ)) → ((w : List ℕ) → o ≡ some w → ⊥) → o ≡ none
-no_start none h = refl
-no_start (some w) h = absurd (h w refl)
+no_start : (o : Option (List ℕ)) → ((w : List ℕ) → o ≡ Some w → ⊥) → o ≡ None
+no_start None h = refl
+no_start (Some w) h = absurd (h w refl)
 
 module _ (q : Rules) (end steps popped result : List ℕ) (h : rewind_refusal q end (length steps) popped (length result) ≡ 0) where
-  led_found : (start : List ℕ) → LedBack q start steps popped end ↔ (start_before (narrowed q) end steps popped ≡ some start)
+  led_found : (start : List ℕ) → LedBack q start steps popped end ↔ (start_before (narrowed q) end steps popped ≡ Some start)
   led_found start =
       let k = accepted q end (length steps) popped (length result) h in
       let b : q.beneath ≤ 1024 = omega (arith, tall_sum q.beneath (length end) k.stands) in

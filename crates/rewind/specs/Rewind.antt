@@ -1,6 +1,6 @@
 -- What stepping back answers (requests U2, U3): its refusals, its answer and its result list.
 use Rattle.std.specs.Prelude.{ℕ, ◌||◌, List, length, eqb, ltb}
-use Rattle.std.proofs.Math.Option.{Option, none, some}
+use Rattle.std.specs.Prelude.{Option, None, Some}
 use Rattle.costs.specs.Choice.{◌if◌otherwise◌}
 use Rattle.costs.specs.Table.{any_over, kinds_fault}
 use Rattle.replay.specs.Machine.{Rules}
@@ -37,8 +37,8 @@ given start old = (record { refusal = 0; length = length start }, over start old
 
 -- 11 where there is no start
 abbrev pub found : Option (List ℕ) → List ℕ → Rewound × List ℕ
-found none old = refused 11 old
-found (some start) old = given start old
+found None old = refused 11 old
+found (Some start) old = given start old
 
 -- stepping back's answer and its result list, on a footing
 unfoldable pub rewound_on : Footing → Rules → List ℕ → List ℕ → List ℕ → List ℕ → Rewound × List ℕ

@@ -1,14 +1,12 @@
 -- The walk back finds the start exactly where there is one.
 use Rattle.std.specs.Prelude.{ℕ, suc, ◌≤◌, false, ◌≡◌, refl, length, take}
 use mathlib.Core.List.{List, [], ◌∷◌, ◌++◌, reverse, reverse_aux, reverse-append, reverse-reverse, append_assoc, append-nil}
-use Rattle.std.proofs.Math.Option.{Option, none, some}
+use Rattle.std.specs.Prelude.{Option, None, Some}
 use Rattle.std.proofs.Common.{ap, sym, subst, ◌∙◌, arith}
 use Rattle.costs.specs.Step.{decoded}
 use Rattle.costs.specs.Table.{any_over}
 use Rattle.costs.specs.declared.Step.{Step}
 use Rattle.costs.specs.declared.Step.TheVariants.{Pop, Dup, Swap, PushImm, LoadVal}
-use Rattle.costs.specs.declared.Decoded.{Decoded}
-use Rattle.costs.specs.declared.Decoded.TheVariants.{Known, Unknown}
 use Rattle.replay.specs.Beneath.{narrowed, narrowed_most, narrowed_fits, narrowed_stands, tall_sum}
 use Rattle.replay.specs.Laws.{after_fits}
 use Rattle.replay.specs.Steps.{Did, did, does, ran_none, ran_goes, ran_went, over_get, over_cons, over_drop}
@@ -21,14 +19,14 @@ use Rattle.rewind.specs.Inverse.{StepBack, undone, redone, Low, low_back}
 -- ---- inversions
 
 -- a walk of two parts came by a place between
-came : (next : Place → Option Place) (o : Option Place) (b : Place) → then next o ≡ some b → (m : Place) × (o ≡ some m) × (next m ≡ some b)
-came next none b h = let z : ◌≡◌ {A = ℕ} 0 1 = cc in absurd (omega arith)
-came next (some m) b h = (m, refl, h)
+came : (next : Place → Option Place) (o : Option Place) (b : Place) → then next o ≡ Some b → (m : Place) × (o ≡ Some m) × (next m ≡ Some b)
+came next None b h = let z : ◌≡◌ {A = ℕ} 0 1 = cc in absurd (omega arith)
+came next (Some m) b h = (m, refl, h)
 
 -- only a known step is walked back over
-known : (q : Rules) (d : Decoded) (m b : Place) → back_on q d m ≡ some b → (s : Step) × (d ≡ Known s) × (back_over q s m.window m.left ≡ some b)
-known q (Known s) m b h = (s, refl, h)
-known q Unknown m b h = let z : ◌≡◌ {A = ℕ} 0 1 = cc in absurd (omega arith)
+known : (q : Rules) (d : Option Step) (m b : Place) → back_on q d m ≡ Some b → (s : Step) × (d ≡ Some s) × (back_over q s m.window m.left ≡ Some b)
+known q (Some s) m b h = (s, refl, h)
+known q None m b h = let z : ◌≡◌ {A = ℕ} 0 1 = cc in absurd (omega arith)
 
 -- ---- popped keys
 
@@ -36,16 +34,16 @@ one_back : (v : List ℕ) → reverse (take 1 v) ≡ take 1 v
 one_back [] = refl
 one_back (k ∷ v) = refl
 
-gone_back : (d : Decoded) (v : List ℕ) → reverse (gone_by d v) ≡ gone_by d v
-gone_back (Known Pop) v = one_back v
-gone_back (Known (Dup p)) v = refl
-gone_back (Known (Swap d)) v = refl
-gone_back (Known (PushImm k)) v = refl
-gone_back (Known (LoadVal k)) v = refl
-gone_back Unknown v = refl
+gone_back : (d : Option Step) (v : List ℕ) → reverse (gone_by d v) ≡ gone_by d v
+gone_back (Some Pop) v = one_back v
+gone_back (Some (Dup p)) v = refl
+gone_back (Some (Swap d)) v = refl
+gone_back (Some (PushImm k)) v = refl
+gone_back (Some (LoadVal k)) v = refl
+gone_back None v = refl
 
 -- the last popped first: those of the later steps, then that of the first
-turned_back : (q : Rules) (c : ℕ) (cs v w rest : List ℕ) → step_on q (decoded c) v ≡ some w →
+turned_back : (q : Rules) (c : ℕ) (cs v w rest : List ℕ) → step_on q (decoded c) v ≡ Some w →
     reverse (popped_on q (c ∷ cs) v) ++ rest ≡ reverse (popped_on q cs w) ++ (gone_by (decoded c) v ++ rest)
 turned_back q c cs v w rest e =
     let g = gone_by (decoded c) v in
@@ -62,19 +60,19 @@ pub record Walked (q : Rules) (cs e left v rest : List ℕ) : Type 0 where
   pub gone : left ≡ reverse (popped_on q cs v) ++ rest
 
 -- the step leads forth again
-forth : (q : Rules) (d : Decoded) (s : Step) (w left v rest : List ℕ) → d ≡ Known s → StepBack q s w left v rest → step_on q d v ≡ some w
+forth : (q : Rules) (d : Option Step) (s : Step) (w left v rest : List ℕ) → d ≡ Some s → StepBack q s w left v rest → step_on q d v ≡ Some w
 forth q d s w left v rest e u = does q d v w s (record { code = e; allowed = u.allowed; leads = u.leads })
 
-one_more : (q : Rules) (c : ℕ) (s : Step) (cs e left w mid v rest : List ℕ) → decoded c ≡ Known s → Walked q cs e left w mid → StepBack q s w mid v rest → Walked q (c ∷ cs) e left v rest
+one_more : (q : Rules) (c : ℕ) (s : Step) (cs e left w mid v rest : List ℕ) → decoded c ≡ Some s → Walked q cs e left w mid → StepBack q s w mid v rest → Walked q (c ∷ cs) e left v rest
 one_more q c s cs e left w mid v rest d k u =
     let f = forth q (decoded c) s w mid v rest d u in
     record {
       fits = u.fits;
       leads = λ i. ran_goes q i c cs v w f ∙ k.leads (suc i);
-      gone = k.gone ∙ ap (λ (l : List ℕ). reverse (popped_on q cs w) ++ l) (u.gone ∙ ap (λ (x : Decoded). gone_by x v ++ rest) (sym d)) ∙ sym (turned_back q c cs v w rest f);
+      gone = k.gone ∙ ap (λ (l : List ℕ). reverse (popped_on q cs w) ++ l) (u.gone ∙ ap (λ (x : Option Step). gone_by x v ++ rest) (sym d)) ∙ sym (turned_back q c cs v w rest f);
     }
 
-pub walked : (q : Rules) (cs : List ℕ) (a b : Place) → length a.window ≤ q.max_len → walked_back q cs a ≡ some b → Walked q cs a.window a.left b.window b.left
+pub walked : (q : Rules) (cs : List ℕ) (a b : Place) → length a.window ≤ q.max_len → walked_back q cs a ≡ Some b → Walked q cs a.window a.left b.window b.left
 unfolding walked_back
 walked q [] a b f h =
     let e : a ≡ b = cc in
@@ -86,7 +84,7 @@ walked q (c ∷ cs) a b f h =
     one_more q c d.0 cs a.window a.left t.0.window t.0.left b.window b.left d.1 k
     (undone q d.0 t.0.window t.0.left b k.fits d.2)
 
-pub walked_low : (q : Rules) (cs : List ℕ) (a b : Place) → Low a.window a.left → walked_back q cs a ≡ some b → Low b.window b.left
+pub walked_low : (q : Rules) (cs : List ℕ) (a b : Place) → Low a.window a.left → walked_back q cs a ≡ Some b → Low b.window b.left
 unfolding walked_back
 walked_low q [] a b l h = let e : a ≡ b = cc in subst (λ (x : Place). Low x.window x.left) e l
 walked_low q (c ∷ cs) a b l h =
@@ -96,16 +94,16 @@ walked_low q (c ∷ cs) a b l h =
 
 -- ---- forth, then back
 
-back : (q : Rules) (d : Decoded) (s : Step) (v w rest : List ℕ) → length v ≤ q.max_len → Did q d v w s → back_on q d (place w (gone_by d v ++ rest)) ≡ some (place v rest)
+back : (q : Rules) (d : Option Step) (s : Step) (v w rest : List ℕ) → length v ≤ q.max_len → Did q d v w s → back_on q d (place w (gone_by d v ++ rest)) ≡ Some (place v rest)
 back q d s v w rest f k = rw (k.code, ← k.leads) (redone q s v rest f k.allowed)
 
 pub retraced : (q : Rules) (cs : List ℕ) (i : ℕ) (v e rest : List ℕ) → length v ≤ q.max_len → ran_on q i cs v ≡ ends e →
-    walked_back q cs (place e (reverse (popped_on q cs v) ++ rest)) ≡ some (place v rest)
+    walked_back q cs (place e (reverse (popped_on q cs v) ++ rest)) ≡ Some (place v rest)
 unfolding walked_back
 retraced q [] i v e rest f h =
     let n : ends v ≡ ends e = sym (ran_none q i v) ∙ h in
     let k : e ≡ v = cc in
-    rw (popped_none q v) (ap (λ (w : List ℕ). some (place w rest)) k)
+    rw (popped_none q v) (ap (λ (w : List ℕ). Some (place w rest)) k)
 retraced q (c ∷ cs) i v e rest f h =
     let t = ran_went q i c cs v e h in
     let w = t.0 in
@@ -118,12 +116,12 @@ retraced q (c ∷ cs) i v e rest f h =
 -- ---- the start
 
 -- a start was found at the end of a walk that put every key back
-at_start : (o : Option Place) (w : List ℕ) → start_of o ≡ some w → o ≡ some (place w [])
-at_start none w h = let z : ◌≡◌ {A = ℕ} 0 1 = cc in absurd (omega arith)
-at_start (some a) w h = go a.window a.left h
+at_start : (o : Option Place) (w : List ℕ) → start_of o ≡ Some w → o ≡ Some (place w [])
+at_start None w h = let z : ◌≡◌ {A = ℕ} 0 1 = cc in absurd (omega arith)
+at_start (Some a) w h = go a.window a.left h
   where
-    go : (v l : List ℕ) → all_back v l ≡ some w → some (place v l) ≡ some (place w [])
-    go v [] e = let k : v ≡ w = cc in ap (λ (x : List ℕ). some (place x [])) k
+    go : (v l : List ℕ) → all_back v l ≡ Some w → Some (place v l) ≡ Some (place w [])
+    go v [] e = let k : v ≡ w = cc in ap (λ (x : List ℕ). Some (place x [])) k
     go v (x ∷ l) e = let z : ◌≡◌ {A = ℕ} 0 1 = cc in absurd (omega arith)
 
 low_aux : (m : ℕ) (l r : List ℕ) → any_over m l ≡ false → any_over m r ≡ false → any_over m (reverse_aux l r) ≡ false
@@ -144,7 +142,7 @@ led_narrow q start steps popped end b k f l p =
     record { keys = k; fits = omega (arith, f, narrowed_most q); stands = narrowed_stands q (length start) b f; leads = l; pops = p }
 
 -- the walk back finds every start that led here
-pub finds : (q : Rules) (start steps popped end : List ℕ) → LedBack q start steps popped end → start_before (narrowed q) end steps popped ≡ some start
+pub finds : (q : Rules) (start steps popped end : List ℕ) → LedBack q start steps popped end → start_before (narrowed q) end steps popped ≡ Some start
 unfolding start_before
 finds q start steps popped end l =
     let n = narrowed q in
@@ -153,7 +151,7 @@ finds q start steps popped end l =
 
 -- what the walk back finds did lead here
 pub found_led : (q : Rules) (start steps popped end : List ℕ) → q.beneath ≤ 1024 → length end ≤ (narrowed q).max_len → any_over 63 end ≡ false → any_over 63 popped ≡ false →
-    start_before (narrowed q) end steps popped ≡ some start → LedBack q start steps popped end
+    start_before (narrowed q) end steps popped ≡ Some start → LedBack q start steps popped end
 unfolding start_before
 found_led q start steps popped end b f k p h =
     let n = narrowed q in

@@ -1,35 +1,32 @@
 // Stepping back: the start from which steps led to an end window.
 #![tactic(auto)]
 
-ghost use Rattle.std.specs.Prelude.{◌≡◌, List, reverse, ℕ, ◌≤◌, length, take};
+mod back;
+
+ghost use Rattle.std.specs.Prelude.{◌≡◌, reverse, IfSome, length};
+ghost use Rattle.std.specs.Option.{option_map};
+ghost use Rattle.costs.specs.Refusal.{refusal_of};
 ghost use Rattle.costs.specs.Step.{decoded};
 ghost use Rattle.window.specs.Pack.{Keys};
 ghost use Rattle.window.specs.Keys.{keys_of, Window};
-ghost use Rattle.replay.specs.Machine.{plain_rules, above, ruled};
+ghost use Rattle.replay.specs.Machine.{plain_rules, above, ruled, rules_of};
 ghost use Rattle.replay.specs.Laws.{Ready};
-ghost use Rattle.rewind.specs.Walk.{place, put_by, regrown, ungrown, unswapped, back_over, back_on, start_before};
-ghost use Rattle.rewind.specs.Held.{undone_of, found_of};
+ghost use Rattle.rewind.specs.Walk.{put_by, regrown, ungrown, unswapped, back_over, back_on, start_before};
+ghost use Rattle.rewind.specs.Held.{back_of, rewound_of};
 ghost use Rattle.rewind.specs.Rewind.{rewind_refusal, rewound};
 ghost use Rattle.rewind.specs.Led.{SteppedBack};
 
-use costs::{Decoded, Step};
-use replay::SearchCfg;
+use back::Back;
+use costs::{Refusal, Step};
+use replay::{Rules, SearchCfg};
 use window::PackedState;
 
-// What stepping back answers: the number of a refusal or 0, the start's length.
+// What stepping back answers: the number of a refusal or 0, the start's length. Numbers, since C gets it.
 #[repr(C)]
 #[derive(Clone, Copy)]
 pub struct Rewound {
     pub refusal: u32,
     pub length: usize,
-}
-
-// A step that was undone: whether it can have led here, the window before it, and how many popped keys are not yet put back.
-#[derive(Clone, Copy)]
-struct Undone {
-    ok: bool,
-    state: PackedState,
-    left: usize,
 }
 
 // The key that a step puts on top of a window, 0 for a step that puts none.
@@ -47,156 +44,96 @@ fn key_put(state: PackedState, step: Step) -> u8
 }
 
 // Back over a Pop.
-fn put_back(max_len: usize, state: PackedState, popped: &[u8], left: usize) -> Undone
-    requires { Window state × (max_len ≤ 21) × Keys 6 popped.now × (left ≤ length popped.now) }
-    ensures { (undone_of popped.now result ≡ regrown max_len (keys_of state) (reverse (take left popped.now))) × Window result.state × (result.left ≤ left) }
+fn put_back<'a>(rules: Rules<'_>, at: Back<'a>) -> Option<Back<'a>>
+    ensures { option_map back_of result ≡ regrown rules.entry.cfg.max_len (keys_of at.entry.state) (reverse at.entry.left.now) }
 {
-    let n = state.len();
-    if left == 0 {
-        return Undone {
-            ok: false,
-            state,
-            left,
-        };
+    let [left @ .., key] = at.left else {
+        return None;
+    };
+    if !replay::has_room(rules.cfg.max_len, at.state.len()) {
+        return None;
     }
-    if replay::has_room(max_len, n) {
-        let key = popped[left - 1];
-        let rest = left - 1;
-        Undone {
-            ok: true,
-            state: state.push(key),
-            left: rest,
-        }
-    } else {
-        Undone {
-            ok: false,
-            state,
-            left,
-        }
-    }
+    Some(Back {
+        state: at.state.push(*key),
+        left,
+    })
 }
 
 // Back over a step that put a key on top.
-fn take_off(cfg: SearchCfg, kinds: &[u8], state: PackedState, step: Step, left: usize) -> Undone
-    requires { (length kinds.now ≡ 64) × Window state × (cfg.max_len ≤ 21) }
-    ensures { ((popped : List ℕ) → undone_of popped result ≡ ungrown (ruled cfg kinds.now) step (keys_of state) (reverse (take left popped))) × Window result.state × (result.left ≤ left) }
+fn take_off<'a>(rules: Rules<'_>, at: Back<'a>, step: Step) -> Option<Back<'a>>
+    ensures { option_map back_of result ≡ ungrown (rules_of rules.entry) step (keys_of at.entry.state) (reverse at.entry.left.now) }
 {
-    let n = state.len();
-    if n == 0 {
-        return Undone {
-            ok: false,
-            state,
-            left,
-        };
+    let below = at.state.len().checked_sub(1)?;
+    let top = at.state.get(0);
+    let state = at.state.pop();
+    if !rules.allows(step, below) {
+        return None;
     }
-    let top = state.get(0);
-    let below = state.pop();
-    if replay::allowed(cfg, kinds, step, n - 1) {
-        let key = key_put(below, step);
-        Undone {
-            ok: key == top,
-            state: below,
-            left,
-        }
-    } else {
-        Undone {
-            ok: false,
-            state: below,
-            left,
-        }
+    let key = key_put(state, step);
+    if key != top {
+        return None;
     }
+    Some(Back {
+        state,
+        left: at.left,
+    })
 }
 
 // Back over a Swap.
-fn swap_back(cfg: SearchCfg, kinds: &[u8], state: PackedState, step: Step, left: usize) -> Undone
-    requires { (length kinds.now ≡ 64) × Window state × (cfg.max_len ≤ 21) }
-    ensures { ((popped : List ℕ) → undone_of popped result ≡ unswapped (ruled cfg kinds.now) step (keys_of state) (reverse (take left popped))) × Window result.state × (result.left ≤ left) }
+#[tactic(auto, using(replay::specs::Laws::ready))]
+fn swap_back<'a>(rules: Rules<'_>, at: Back<'a>, step: Step) -> Option<Back<'a>>
+    ensures { option_map back_of result ≡ unswapped (rules_of rules.entry) step (keys_of at.entry.state) (reverse at.entry.left.now) }
 {
-    let n = state.len();
-    if replay::allowed(cfg, kinds, step, n) {
-        Undone {
-            ok: true,
-            state: replay::moved(state, step),
-            left,
-        }
-    } else {
-        Undone {
-            ok: false,
-            state,
-            left,
-        }
+    if !rules.allows(step, at.state.len()) {
+        return None;
     }
+    Some(Back {
+        state: replay::moved(at.state, step),
+        left: at.left,
+    })
 }
 
 // One step back, if the step can have led here.
-fn undo(
-    cfg: SearchCfg,
-    kinds: &[u8],
-    state: PackedState,
-    step: Step,
-    popped: &[u8],
-    left: usize,
-) -> Undone
-    requires { (length kinds.now ≡ 64) × Window state × (cfg.max_len ≤ 21) × Keys 6 popped.now × (left ≤ length popped.now) }
-    ensures { (undone_of popped.now result ≡ back_over (ruled cfg kinds.now) step (keys_of state) (reverse (take left popped.now))) × Window result.state × (result.left ≤ left) }
+#[tactic(auto, unfolding(crate::specs::Walk::back_over))]
+fn undo<'a>(rules: Rules<'_>, at: Back<'a>, step: Step) -> Option<Back<'a>>
+    ensures { option_map back_of result ≡ back_over (rules_of rules.entry) step (keys_of at.entry.state) (reverse at.entry.left.now) }
 {
     match step {
-        Step::Pop => put_back(cfg.max_len, state, popped, left),
-        Step::Dup(_) => take_off(cfg, kinds, state, step, left),
-        Step::Swap(_) => swap_back(cfg, kinds, state, step, left),
-        Step::PushImm(_) => take_off(cfg, kinds, state, step, left),
-        Step::LoadVal(_) => take_off(cfg, kinds, state, step, left),
+        Step::Pop => put_back(rules, at),
+        Step::Dup(_) => take_off(rules, at, step),
+        Step::Swap(_) => swap_back(rules, at, step),
+        Step::PushImm(_) => take_off(rules, at, step),
+        Step::LoadVal(_) => take_off(rules, at, step),
     }
 }
 
 // The same for a code.
-fn step_back(
-    cfg: SearchCfg,
-    kinds: &[u8],
-    state: PackedState,
-    code: u16,
-    popped: &[u8],
-    left: usize,
-) -> Undone
-    requires { (length kinds.now ≡ 64) × Window state × (cfg.max_len ≤ 21) × Keys 6 popped.now × (left ≤ length popped.now) }
-    ensures { (undone_of popped.now result ≡ back_on (ruled cfg kinds.now) (decoded code) (place (keys_of state) (reverse (take left popped.now)))) × Window result.state × (result.left ≤ left) }
+fn step_back<'a>(rules: Rules<'_>, at: Back<'a>, code: u16) -> Option<Back<'a>>
+    ensures { option_map back_of result ≡ back_on (rules_of rules.entry) (decoded code) (back_of at.entry) }
 {
-    let Decoded::Known(step) = costs::decode(code) else {
-        return Undone {
-            ok: false,
-            state,
-            left,
-        };
-    };
-    undo(cfg, kinds, state, step, popped, left)
+    let step = Step::try_from(code).ok()?;
+    undo(rules, at, step)
 }
 
-// The steps from the last to the first, up to one that cannot have led there; all popped keys must then be put back.
-fn walk_back(cfg: SearchCfg, kinds: &[u8], end: PackedState, steps: &[u16], popped: &[u8]) -> Undone
-    requires { (length kinds.now ≡ 64) × Window end × (cfg.max_len ≤ 21) × Keys 6 popped.now }
-    ensures { (found_of result ≡ start_before (ruled cfg kinds.now) (keys_of end) steps.now popped.now) × Window result.state }
+// The start before the steps: back from the last to the first, unless one cannot have led there; all popped keys must then be put back.
+fn walk_back(rules: Rules<'_>, end: Back<'_>, steps: &[u16]) -> Option<PackedState>
+    ensures start { option_map keys_of result ≡ start_before (rules_of rules.entry) (keys_of end.entry.state) steps.now end.entry.left.now }
+    ensures window { IfSome result Window }
 {
-    let mut state = end;
-    let mut left = popped.len();
-    let mut i = steps.len();
-    while 0 < i {
-        i -= 1;
-        let a = step_back(cfg, kinds, state, steps[i], popped, left);
-        if !a.ok {
-            return a;
-        }
-        state = a.state;
-        left = a.left;
+    let mut at = end;
+    for &code in steps.iter().rev() {
+        at = step_back(rules, at, code)?;
     }
-    Undone {
-        ok: left == 0,
-        state,
-        left,
+    if at.left.is_empty() {
+        Some(at.state)
+    } else {
+        None
     }
 }
 
-// Refusals 1 to 7, and 12 before 6.
-fn refusal(
+// Refusals 1 to 7, and 12 before 6. All that a call is given, since each row of the table reads another part of it.
+#[tactic(auto, unfolding(crate::specs::Rewind::rewind_table))]
+fn check(
     cfg: SearchCfg,
     beneath: usize,
     end: &[u8],
@@ -204,21 +141,59 @@ fn refusal(
     popped: &[u8],
     kinds: &[u8],
     places: usize,
-) -> u32
-    ensures { result ≡ rewind_refusal (above beneath (ruled cfg kinds.now)) end.now steps popped.now places }
+) -> Result<(), Refusal>
+    ensures { refusal_of result ≡ rewind_refusal (above beneath (ruled cfg kinds.now)) end.now steps popped.now places }
 {
-    let dup_max = cfg.dup_max;
-    let swap_max = cfg.swap_max;
-    let max_len = cfg.max_len;
-    let short = costs::row(7, places < 21, 0);
-    let length = costs::row(6, max_len < end.len(), short);
-    let stack = costs::row(12, replay::too_tall(beneath, end.len()), length);
-    let over = costs::either(costs::any_over(end, 63), costs::any_over(popped, 63));
-    let key = costs::row(5, over, stack);
-    let table = costs::row(4, costs::kinds_fault(kinds), key);
-    let allowance = costs::row(3, 65536 < steps, table);
-    let window = costs::row(2, 21 < max_len, allowance);
-    costs::row(1, replay::reach_fault(dup_max, swap_max), window)
+    if replay::reach_fault(cfg.dup_max, cfg.swap_max) {
+        return Err(Refusal::Reach);
+    }
+    if 21 < cfg.max_len {
+        return Err(Refusal::Window);
+    }
+    if 65536 < steps {
+        return Err(Refusal::Allowance);
+    }
+    if costs::kinds_fault(kinds) {
+        return Err(Refusal::Table);
+    }
+    if costs::any_over(end, 63) || costs::any_over(popped, 63) {
+        return Err(Refusal::Key);
+    }
+    if replay::too_tall(beneath, end.len()) {
+        return Err(Refusal::Stack);
+    }
+    if cfg.max_len < end.len() {
+        return Err(Refusal::Length);
+    }
+    if places < 21 {
+        return Err(Refusal::ShortList);
+    }
+    Ok(())
+}
+
+// The start's length, with the start over the first places of the result list, or why there is none.
+fn try_rewind(
+    end: &[u8],
+    steps: &[u16],
+    popped: &[u8],
+    given: SearchCfg,
+    beneath: usize,
+    kinds: &[u8],
+    res: &mut [u8],
+) -> Result<usize, Refusal>
+    ensures { (rewound_of result, res.new) ≡ rewound (above beneath (ruled given kinds.now)) end.now steps.now popped.now res.old }
+{
+    check(given, beneath, end, steps.len(), popped, kinds, res.len())?;
+    let rules = Rules {
+        cfg: replay::narrowed(given, beneath),
+        kinds,
+    };
+    let end = Back {
+        state: PackedState::from_ids(end),
+        left: popped,
+    };
+    let start = walk_back(rules, end, steps).ok_or(Refusal::Start)?;
+    Ok(start.write(res))
 }
 
 // The start from which the steps lead, above so many items, to the end window with these keys popped: its length, with the start over the
@@ -242,23 +217,11 @@ pub fn rewind(
         swap_max,
         max_len,
     };
-    let n = refusal(given, beneath, end, steps.len(), popped, kinds, res.len());
-    if n != 0 {
-        return Rewound {
-            refusal: n,
+    match try_rewind(end, steps, popped, given, beneath, kinds, res) {
+        Ok(length) => Rewound { refusal: 0, length },
+        Err(refusal) => Rewound {
+            refusal: refusal.number(),
             length: 0,
-        };
-    }
-    let cfg = replay::narrowed(given, beneath);
-    let a = walk_back(cfg, kinds, PackedState::from_ids(end), steps, popped);
-    let state = a.state;
-    if a.ok {
-        let length = state.write(res);
-        Rewound { refusal: 0, length }
-    } else {
-        Rewound {
-            refusal: 11,
-            length: 0,
-        }
+        },
     }
 }

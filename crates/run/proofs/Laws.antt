@@ -1,47 +1,20 @@
--- The small functions of a run, and the definitions that do not look at the start and the goal.
-use mathlib.Core.Path.{◌≡◌, refl, sym, ap, ◌∙◌}
-use mathlib.Core.Bool.{Bool, true, false, ◌||◌}
-use mathlib.Core.List.{List, [], ◌∷◌}
-use Prim.Native.Nat.{ℕ, ◌≤◌, ◌<◌}
-use native.Mathlib.Omega.{arith}
-use borrow.Author.Tests.{le-leb, lt-leb, lt-ltb, le-ltb}
-use lib.Dec.{ltb}
+-- What of a run does not look at the start and the goal; and costs that are the same.
+use Rattle.std.proofs.Common.{◌≡◌, ◌≢◌, refl, sym, ap, ◌∙◌, true, false, List, [], ◌∷◌, ℕ, arith}
+use Rattle.std.proofs.lemmas.Bool.Decides.{nat_tests}
 use Rattle.costs.specs.declared.Cost.{Cost}
 use Rattle.costs.specs.Packed.{cost_of}
 use Rattle.algebra.specs.GasBytes.{gas_bytes}
 use Rattle.astar.specs.Cost.{same}
 use Rattle.astar.specs.Search.{Succ, Work, Hand, offer, offers}
-use Rattle.nodes.proofs.Lemmas.{by_lt}
 use Rattle.lists.proofs.Queue.{cost_le}
 use Rattle.offer.specs.Rules.{Rules, coded}
 use Rattle.offer.proofs.Laws.{offer_any}
 
--- ---- over
-
-pub or_first : (a n m : ℕ) → a < n → true ≡ (ltb a n || ltb a m)
-or_first a n m h = rw (lt-ltb a n h)
-
-pub or_second : (a n m : ℕ) → n ≤ a → ltb a m ≡ (ltb a n || ltb a m)
-or_second a n m h = rw (le-ltb a n h)
-
-pub not_over : (o : Bool) (a n m : ℕ) → o ≡ (ltb a n || ltb a m) → o ≡ false → (n ≤ a) × (m ≤ a)
-not_over o a n m e f =
-    by_lt a n
-    (λ l. let z : ◌≡◌ {A = ℕ} 0 1 = cc (or_first a n m l) in absurd (omega arith))
-    (λ l.
-    by_lt a m
-    (λ g. let z : ◌≡◌ {A = ℕ} 0 1 = cc (or_second a n m l, lt-ltb a m g) in absurd (omega arith))
-    (λ g. (l, g)))
-
--- ---- costs that are the same
-
 pub same_true : (a b : ℕ) → a ≡ b → same gas_bytes (cost_of a) (cost_of b) ≡ true
-same_true a b e = rw (cost_le a b, cost_le b a, le-leb a b (omega arith), le-leb b a (omega arith))
+same_true a b e = rw (cost_le a b, cost_le b a) (grind (arith, nat_tests))
 
-pub same_false : (a b : ℕ) → (a ≡ b → ⊥) → same gas_bytes (cost_of a) (cost_of b) ≡ false
-same_false a b ne =
-    rw (cost_le a b, cost_le b a)
-    (by_lt a b (λ l. rw (le-leb a b (omega arith), lt-leb b a l)) (λ l. rw (lt-leb a b (omega arith))))
+pub same_false : (a b : ℕ) → a ≢ b → same gas_bytes (cost_of a) (cost_of b) ≡ false
+same_false a b ne = rw (cost_le a b, cost_le b a) (grind (arith, nat_tests))
 
 -- ---- offering does not look at the start and the goal
 

@@ -1,55 +1,85 @@
 // A run of the search over lent lists: each pass of its loop is one turn of document 01.
 #![tactic(auto)]
 
-ghost use Rattle.std.specs.Prelude.{◌≡◌, cond, ◌||◌, ℕ, ◌+◌, ◌-◌, ◌*◌, ◌<◌, ◌≤◌, ltb, length};
+ghost use Rattle.std.specs.Prelude.{◌≡◌, cond, ◌||◌, ltb};
 ghost use Rattle.algebra.specs.GasBytes.{«gas_bytes»};
+ghost use Rattle.astar.specs.Search.{number};
 ghost use Rattle.astar.specs.Valid.{AllValid};
 ghost use Rattle.lists.specs.View.{queue_of, Kept, Piled};
-ghost use Rattle.search.specs.Table.{question_of, Ready};
-ghost use Rattle.search.specs.View.{Awaits};
+ghost use Rattle.search.specs.View.{posed, Awaits};
+ghost use Rattle.run.specs.Ending.{ended_by};
 ghost use Rattle.run.specs.View.{search_of, Roomy, Ran};
 
-use lists::Known;
 use offer::{Held, Sizes};
-use search::Setup;
+use search::Question;
 use window::PackedState;
 
 // The start and the goal.
-#[derive(Clone, Copy)]
+#[derive(Clone, Copy, PartialEq, Eq)]
 pub struct Ask {
     pub start: PackedState,
     pub goal: PackedState,
 }
 
 // Expansions, and states without and with a plan in hand.
-#[derive(Clone, Copy)]
-pub struct Limits {
-    pub most: usize,
-    pub plain: usize,
-    pub held: usize,
+#[derive(Clone, Copy, PartialEq, Eq)]
+pub struct Allowances {
+    pub max_expansions: usize,
+    pub states_without: usize,
+    pub states_with: usize,
+}
+
+// Why a run ended: no entry waits, the least one is cut off, or there are too many states or expansions.
+#[derive(Clone, Copy, PartialEq, Eq)]
+pub enum Ending {
+    Drained,
+    CutOff,
+    States,
+    Expansions,
 }
 
 // What a run leaves.
-#[derive(Clone, Copy)]
+#[derive(Clone, Copy, PartialEq, Eq)]
 pub struct Left {
     pub held: Held,
     pub nodes: usize,
     pub count: usize,
-    pub ending: u32,
+    pub ending: Ending,
 }
 
-// The state allowance for the present hand.
-fn allowed(held: Held, limits: Limits) -> usize
-    ensures { result ≡ cond held.have limits.held limits.plain }
-{
-    if held.have { limits.held } else { limits.plain }
+// The number of an ending in document 01.
+impl From<Ending> for u32 {
+    ghost from_gives = { λ ending n. n ≡ number (ended_by ending) };
+
+    #[tactic(auto, unfolding(astar::specs::Search::number))]
+    fn from(ending: Ending) -> u32 {
+        match ending {
+            Ending::Drained => 2,
+            Ending::CutOff => 3,
+            Ending::States => 4,
+            Ending::Expansions => 5,
+        }
+    }
+}
+
+impl Allowances {
+    // The states that are allowed with the present hand.
+    fn states(self, held: Held) -> usize
+        ensures { result ≡ cond held.have self.states_with self.states_without }
+    {
+        if held.have {
+            self.states_with
+        } else {
+            self.states_without
+        }
+    }
 }
 
 // Whether nodes or open entries are over the allowance.
-fn over(room: usize, n: usize, m: usize) -> bool
-    ensures { result ≡ (ltb room n || ltb room m) }
+fn over(room: usize, at: Sizes) -> bool
+    ensures { result ≡ (ltb room at.nodes || ltb room at.list) }
 {
-    if room < n { true } else { room < m }
+    room < at.nodes || room < at.list
 }
 
 // A run from the search that the lists hold.
@@ -57,55 +87,47 @@ pub fn run(
     nodes: &mut [u64],
     heads: &mut [u64],
     list: &mut [u64],
-    table: &[u8],
-    prices: &[u32],
-    setup: Setup,
+    question: &Question<'_>,
     sizes: Sizes,
     first: Held,
     ask: Ask,
-    limits: Limits,
+    limits: Allowances,
 ) -> Left
     requires kept { Kept nodes.old heads.old sizes.nodes }
     requires piled { Piled list.old sizes.list }
     requires roomy { Roomy limits nodes.old list.old }
-    requires ready { Ready setup table.now prices.now }
-    requires all_valid { AllValid «gas_bytes» (Awaits (question_of setup table.now prices.now)) (queue_of list.old sizes.list) }
-    ensures { Ran (question_of setup table.now prices.now) ask limits (search_of nodes.old list.old sizes first 0) nodes.new heads.new result }
+    requires all_valid { AllValid «gas_bytes» (Awaits (posed question.now)) (queue_of list.old sizes.list) }
+    ensures { Ran (posed question.now) ask limits (search_of nodes.old list.old sizes first 0) nodes.new heads.new result }
 {
     let mut at = sizes;
     let mut held = first;
-    let mut count: usize = 0;
+    let mut count = 0;
     let ending = 'turns: loop {
-        let n = at.nodes;
-        let m = at.list;
-        if m == 0 {
-            break 'turns 2;
+        if at.list == 0 {
+            break 'turns Ending::Drained;
         }
-        let e = lists::take(list, m);
-        let left = m - 1;
-        at.list = left;
-        let state = PackedState { hi: e.hi, lo: e.lo };
-        let Known::Is(node) = lists::recall(nodes, heads, n, state) else {
+        let e = lists::take(list, at.list);
+        at.list -= 1;
+        let Some(node) = lists::recall(nodes, heads, at.nodes, e.state) else {
             continue 'turns;
         };
         if node.cost != e.g {
             continue 'turns;
         }
-        let goal = ask.goal;
-        if state.same(goal) {
+        if e.state.same(ask.goal) {
             held = offer::goal_drawn(held, e.g);
             continue 'turns;
         }
         if offer::cut(held, e.f) {
-            break 'turns 3;
+            break 'turns Ending::CutOff;
         }
-        if over(allowed(held, limits), n, left) {
-            break 'turns 4;
+        if over(limits.states(held), at) {
+            break 'turns Ending::States;
         }
-        if limits.most <= count {
-            break 'turns 5;
+        if limits.max_expansions <= count {
+            break 'turns Ending::Expansions;
         }
-        at = search::expand_drawn(nodes, heads, list, table, prices, setup, at, held, e, node);
+        at = question.expand_drawn(nodes, heads, list, at, held, e, node);
         count += 1;
     };
     Left {

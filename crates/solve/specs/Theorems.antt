@@ -2,7 +2,7 @@
 use Rattle.std.specs.Prelude.{◌≡◌, refl, Bool, false, ℕ, suc, ◌+◌, ◌*◌, ◌≤◌, max, T, length}
 use Rattle.std.proofs.Common.{ap, subst, arith}
 use mathlib.Core.List.{List, [], ◌∷◌, Memᴰ}
-use Rattle.std.proofs.Math.Option.{Option, some}
+use Rattle.std.specs.Prelude.{Option, Some}
 use Rattle.costs.specs.declared.Cost.{Cost}
 use Rattle.costs.specs.Cost.{none as no-cost}
 use Rattle.costs.specs.Price.{cost_for_steps}
@@ -40,7 +40,7 @@ plainly a b = record { gas = a.gas + b.gas; bytes = a.bytes + b.bytes }
 pub record ReadsBack (q : Question) (start : List ℕ) (s : Search Cost ℕ) (g : Cost) : Type 0 where
   pub route : List (Succ Cost ℕ)
   -- the read-back ends, and gives the steps of the route
-  pub read : read_back gas_bytes (problem_of q start) (suc s.count) s.work.nodes (pack 6 q.goal) [] ≡ some (steps gas_bytes (problem_of q start) route)
+  pub read : read_back gas_bytes (problem_of q start) (suc s.count) s.work.nodes (pack 6 q.goal) [] ≡ Some (steps gas_bytes (problem_of q start) route)
   -- they replay from the start to the goal
   pub replays : ran_on q.rules 0 (steps gas_bytes (problem_of q start) route) start ≡ ends q.goal
   -- through pairwise distinct states
@@ -92,7 +92,7 @@ module _ (q : Question) (b : Bounds q) (f : prices_fault q.prices ≡ false) (st
             record { keys = r.window; packed = r.packed; below = r.keys; fits = r.fits }
 
     -- nothing saturates: the g of a successor is the plain sum
-    module _ (v : ℕ) (n : Node Cost ℕ) (N : find v s.work.nodes ≡ some n) (u : ℕ) (p : Option ℕ) (x : Succ Cost ℕ) (m : Memᴰ x (Q.after u p)) where
+    module _ (v : ℕ) (n : Node Cost ℕ) (N : find v s.work.nodes ≡ Some n) (u : ℕ) (p : Option ℕ) (x : Succ Cost ℕ) (m : Memᴰ x (Q.after u p)) where
       cost_small : gas_bytes.size n.cost ≤ 30000 * 65536
       cost_small =
           let z : gas_bytes.size n.cost ≤ 30000 * s.count = good.sound.small v n N in
@@ -124,7 +124,7 @@ module _ (q : Question) (b : Bounds q) (f : prices_fault q.prices ≡ false) (st
           rw (sat_exact (n.cost.gas + x.price.gas) (Q.est w).gas i, sat_exact (n.cost.bytes + x.price.bytes) (Q.est w).bytes j)
 
     -- the goal recorded last is read back
-    pub reads : (g : Cost) → s.hand.last ≡ some g → ReadsBack q start s g
+    pub reads : (g : Cost) → s.hand.last ≡ Some g → ReadsBack q start s g
     reads g h =
         let P : Plan gas_bytes Q s g = reads_back gas_bytes Q 50 30000 B A (domain_fits A.expansions few) s good g h in
         record {

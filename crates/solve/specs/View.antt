@@ -1,6 +1,5 @@
 -- What a whole search answers, as the definition's planner has it.
-use Rattle.std.specs.Prelude.{◌≡◌, Bool, true, false, cond, List, [], ℕ, ◌≤◌, length, take, drop}
-use Rattle.std.proofs.Math.Option.{Option, none, some}
+use Rattle.std.specs.Prelude.{◌≡◌, Bool, false, List, [], ℕ, ◌≤◌, length, take, drop, Option, None, Some}
 use Rattle.costs.specs.declared.Cost.{Cost}
 use Rattle.costs.specs.Cost.{none as no-cost}
 use Rattle.costs.specs.Packed.{cost_of}
@@ -10,22 +9,19 @@ use Rattle.window.specs.declared.PackedState.{PackedState}
 use Rattle.window.specs.Pack.{Keys}
 use Rattle.window.specs.State.{whole}
 use Rattle.algebra.specs.GasBytes.{gas_bytes}
-use Rattle.astar.specs.Search.{Ending, number, Search, begin}
-use Rattle.astar.specs.Again.{Ends}
+use Rattle.astar.specs.Search.{number, Search, begin}
 use Rattle.astar.specs.Planner.{Found, Answer, given, searched}
 use Rattle.successors.specs.Successors.{Question}
 use Rattle.problem.specs.Problem.{problem_of}
 use Rattle.lists.specs.View.{SearchNode}
-use Rattle.offer.specs.View.{hand_of, Now}
+use Rattle.offer.specs.View.{Now}
 use Rattle.offer.specs.declared.Sizes.{Sizes}
+use Rattle.run.specs.Ending.{ended_by}
 use Rattle.run.specs.View.{problem_for, allowance}
 use Rattle.run.specs.declared.Ask.{Ask}
-use Rattle.run.specs.declared.Limits.{Limits}
-use Rattle.run.specs.declared.Left.{Left}
+use Rattle.run.specs.declared.Allowances.{Allowances}
 use Rattle.back.specs.Back.{ReadBack}
-use Rattle.back.specs.declared.Back.{Back}
-use Rattle.back.specs.declared.Back.TheVariants.{Steps, Lost}
-use Rattle.solve.specs.declared.Planning.{Planning}
+use Rattle.solve.specs.declared.Plan.{Plan}
 use Rattle.solve.specs.declared.Outcome.{Outcome}
 
 -- ---- begin
@@ -36,7 +32,7 @@ estimate_in q v = (problem_of q []).est v
 
 -- the start's node: no cost, and no parent
 abbrev pub first_node : PackedState → SearchNode
-first_node s = record { state = whole s; cost = no-cost; parent = none }
+first_node s = record { state = whole s; cost = no-cost; parent = None }
 
 -- the first search
 abbrev pub first_of : Question → Ask → Cost → Bool → Search Cost ℕ
@@ -44,36 +40,15 @@ first_of q a bound have = begin gas_bytes (problem_for q a) bound have
 
 -- the lists hold the first search's work
 abbrev pub Begun : Question → Ask → List ℕ → List ℕ → List ℕ → Sizes → Type 0
-Begun q a xs hs os r = Now (first_of q a (cost_of 0) false).work 1 1 xs hs os r
+Begun q a xs hs os r = Now 1 (record { nodes = 0; list = 0 }) (first_of q a (cost_of 0) false).work xs hs os r
 
--- ---- run and read back
+-- ---- the plan
 
--- the steps that were read back, if a goal was recorded
-abbrev pub StepsRead : Ask → List SearchNode → ℕ → List ℕ → List ℕ → Bool → Back → Type 0
-StepsRead a ns k xs ys true b = ReadBack a.start a.goal k ns xs ys b
-StepsRead a ns k xs ys false b = (ys ≡ xs) × (b ≡ Lost)
-
--- A run ended, and the plan was read back: its last search, and what is said of it.
-pub record Planned (q : Question) (a : Ask) (l : Limits) (bound : ℕ) (have : Bool) (xs ys : List ℕ) (r : Planning) : Type 0 where
-  pub last : Search Cost ℕ
-  pub ending : Ending
-  pub ends : Ends gas_bytes (problem_for q a) (allowance l) (first_of q a (cost_of bound) have) last ending
-  pub hand_is : last.hand ≡ hand_of r.left.held
-  pub count_is : last.count ≡ r.left.count
-  pub number_is : number ending ≡ r.left.ending
-  pub steps_read : StepsRead a last.work.nodes r.left.count xs ys r.left.held.found r.back
-
--- ---- the outcome
-
--- there is a place for each step that is said to be there
-abbrev pub Placed : Back → List ℕ → Type 0
-Placed (Steps k) ys = k ≤ length ys
-Placed Lost ys = Unit {0}
-
--- a plan read back is found by the search, at its listed cost; its ceiling is the g of the last goal recorded
-abbrev pub outcome_of : Left → Back → (prices ys : List ℕ) → Outcome
-outcome_of l Lost prices ys = record { found = false; steps = 0; cost = no-cost; ceiling = no-cost; ending = l.ending; expansions = l.count }
-outcome_of l (Steps k) prices ys = record { found = true; steps = k; cost = cost_for_steps prices (take k ys); ceiling = cost_of l.held.mark; ending = l.ending; expansions = l.count }
+-- the plan that was read back, if a goal was recorded: its listed cost, and as its ceiling the g of that goal
+abbrev pub PlanRead : Ask → (prices : List ℕ) → List SearchNode → ℕ → (xs ys : List ℕ) → (found : Option ℕ) → Option Plan → Type 0
+PlanRead a prices ns k xs ys None r = (ys ≡ xs) × (r ≡ None)
+PlanRead a prices ns k xs ys (Some g) None = ReadBack a.start a.goal k ns xs ys None
+PlanRead a prices ns k xs ys (Some g) (Some p) = ReadBack a.start a.goal k ns xs ys (Some p.steps) × (p.cost ≡ cost_for_steps prices (take p.steps ys)) × (p.ceiling ≡ cost_of g)
 
 -- ---- the answer
 
@@ -81,28 +56,31 @@ outcome_of l (Steps k) prices ys = record { found = true; steps = k; cost = cost
 abbrev pub priced_by : List ℕ → ℕ → Cost
 priced_by prices c = price_of prices (decoded c)
 
--- what a caller gets, where `held` is the builders' plan and ys the step list: the search's plan (origin 3), or else the builders'
+-- the search's plan (origin 3), whose steps stand in ys, or else the builders'
+abbrev pub plan_told : Option (Found Cost ℕ) → Option Plan → List ℕ → Option (Found Cost ℕ)
+plan_told held None ys = held
+plan_told held (Some p) ys = Some (record { origin = 3; steps = take p.steps ys; cost = p.cost; ceiling = p.ceiling })
+
+-- what a caller gets, where `held` is the builders' plan and ys the step list
 abbrev pub told : Option (Found Cost ℕ) → Outcome → List ℕ → Answer Cost ℕ
-told held r ys =
-    record {
-      plan = cond r.found (some (record { origin = 3; steps = take r.steps ys; cost = r.cost; ceiling = r.ceiling })) held;
-      ending = r.ending;
-      expansions = r.expansions;
-    }
+told held r ys = record { plan = plan_told held r.plan ys; ending = number (ended_by r.ending); expansions = r.expansions }
+
+-- how many steps of the step list the plan is
+abbrev pub steps_in : Option Plan → ℕ
+steps_in None = 0
+steps_in (Some p) = p.steps
 
 -- The answer is the definition's, whatever the builders' plan was; behind the plan the step list is as it was.
-pub record SearchedFor (q : Question) (a : Ask) (l : Limits) (bound : Cost) (have : Bool) (r : Outcome) (xs ys : List ℕ) : Type 0 where
+pub record SearchedFor (q : Question) (a : Ask) (l : Allowances) (bound : Cost) (have : Bool) (r : Outcome) (xs ys : List ℕ) : Type 0 where
   pub answer : (held : Option (Found Cost ℕ)) → given held ≡ have → told held r ys ≡ searched gas_bytes (problem_for q a) (priced_by q.prices) 50 bound held (allowance l)
-  pub rest : drop r.steps ys ≡ drop r.steps xs
-  pub fits : r.steps ≤ length ys
-  pub unwritten : r.found ≡ false → r.steps ≡ 0
+  pub rest : drop (steps_in r.plan) ys ≡ drop (steps_in r.plan) xs
+  pub fits : steps_in r.plan ≤ length ys
 
 -- The same of the question's problem from a start window to the goal.
-pub record Searched (q : Question) (start : List ℕ) (l : Limits) (bound : Cost) (have : Bool) (r : Outcome) (xs ys : List ℕ) : Type 0 where
+pub record Searched (q : Question) (start : List ℕ) (l : Allowances) (bound : Cost) (have : Bool) (r : Outcome) (xs ys : List ℕ) : Type 0 where
   pub answer : (held : Option (Found Cost ℕ)) → given held ≡ have → told held r ys ≡ searched gas_bytes (problem_of q start) (priced_by q.prices) 50 bound held (allowance l)
-  pub rest : drop r.steps ys ≡ drop r.steps xs
-  pub fits : r.steps ≤ length ys
-  pub unwritten : r.found ≡ false → r.steps ≡ 0
+  pub rest : drop (steps_in r.plan) ys ≡ drop (steps_in r.plan) xs
+  pub fits : steps_in r.plan ≤ length ys
 
 -- the start is a window of the question
 pub record StartFits (q : Question) (start : List ℕ) : Type 0 where

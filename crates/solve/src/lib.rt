@@ -1,70 +1,51 @@
 // A whole search: begin, run, read the plan back, and what a caller gets.
 #![tactic(auto)]
 
-ghost use Rattle.std.specs.Prelude.{◌≡◌, true, false, ℕ, ◌+◌, ◌-◌, ◌*◌, ◌<◌, ◌≤◌, length, take, drop};
+ghost use Rattle.std.specs.Prelude.{◌≡◌, None, ◌≤◌, ◌<◌, length};
 ghost use Rattle.costs.specs.Packed.{cost_of};
 ghost use Rattle.window.specs.State.{whole};
 ghost use Rattle.window.specs.Keys.{Window};
 ghost use Rattle.successors.specs.Whole.{asked};
-ghost use Rattle.lists.specs.View.{node_is, nodes_of, Kept};
-ghost use Rattle.search.specs.Table.{question_of, Ready};
-ghost use Rattle.search.specs.View.{IsWindow};
+ghost use Rattle.lists.specs.View.{nodes_of, Kept};
+ghost use Rattle.search.specs.View.{posed, IsWindow};
 ghost use Rattle.run.specs.View.{Roomy, Ran};
 ghost use Rattle.table.specs.Table.{Accepted};
-ghost use Rattle.solve.specs.View.{estimate_in, first_node, first_of, Begun, StepsRead, Placed, outcome_of, Planned, Searched, SearchedFor, StartFits};
+ghost use Rattle.solve.specs.View.{estimate_in, first_of, Begun, PlanRead, Searched, SearchedFor, StartFits};
 
-use back::Back;
 use costs::Cost;
 use heap::Entry;
-use lists::{Node, Parent};
-use nodes::Found;
+use lists::Node;
 use offer::{Held, Sizes};
-use replay::SearchCfg;
-use run::{Ask, Left, Limits};
-use search::Setup;
+use replay::Rules;
+use run::{Allowances, Ask, Ending, Left};
+use search::Question;
+use table::Table;
 use window::PackedState;
 
-// What a run left, and the plan that was read back.
-#[derive(Clone, Copy)]
-pub struct Planning {
-    pub left: Left,
-    pub back: Back,
-}
-
-// What a search came to: whether it found a plan, and how many steps of the step list that is; the plan's cost and ceiling; the ending
-// and the expansions. Without a plan the first four are 0.
-#[derive(Clone, Copy)]
-pub struct Outcome {
-    pub found: bool,
+// A plan that the search found: how many steps of the step list it is, its cost, and its ceiling.
+#[derive(Clone, Copy, PartialEq, Eq)]
+pub struct Plan {
     pub steps: usize,
     pub cost: Cost,
     pub ceiling: Cost,
-    pub ending: u32,
+}
+
+// What a search came to: the plan, if it found one, the ending and the expansions.
+#[derive(Clone, Copy, PartialEq, Eq)]
+pub struct Outcome {
+    pub plan: Option<Plan>,
+    pub ending: Ending,
     pub expansions: usize,
 }
 
 // The estimate of a state, as a number.
-fn estimate(state: PackedState, table: &[u8], prices: &[u32], setup: Setup) -> u64
-    requires ready { Ready setup table.now prices.now }
-    requires window { Window state }
-    ensures { cost_of result ≡ estimate_in (question_of setup table.now prices.now) (whole state) }
+fn estimate(question: &Question<'_>, state: PackedState) -> u64
+    requires { Window state }
+    ensures { cost_of result ≡ estimate_in (posed question.now) (whole state) }
 {
-    let mut have = [0u8; 64];
-    let gas = search::standing(state, setup, table, prices, &mut have);
-    let h = Cost { gas, bytes: 0 };
-    h.packed()
-}
-
-// The node of the start.
-fn first_node(start: PackedState) -> Node
-    ensures result_value { node_is result ≡ first_node start }
-    ensures state_value { result.state ≡ start }
-{
-    Node {
-        state: start,
-        cost: 0,
-        parent: Parent::Start,
-    }
+    let mut have = [0; 64];
+    let gas = question.standing(state, &mut have);
+    u64::from(Cost { gas, bytes: 0 })
 }
 
 // The first search, whatever the lists held before.
@@ -72,177 +53,111 @@ pub fn begin(
     nodes: &mut [u64],
     heads: &mut [u64],
     list: &mut [u64],
-    table: &[u8],
-    prices: &[u32],
-    setup: Setup,
+    question: &Question<'_>,
     ask: Ask,
 ) -> Sizes
     requires heads_nonzero { 0 < length heads.old }
     requires in_bounds { 8 ≤ length nodes.old }
     requires in_bounds_2 { 4 ≤ length list.old }
-    requires ready { Ready setup table.now prices.now }
     requires window { Window ask.start }
-    ensures { Begun (question_of setup table.now prices.now) ask nodes.new heads.new list.new result }
+    ensures { Begun (posed question.now) ask nodes.new heads.new list.new result }
 {
-    let start = ask.start;
-    let f = estimate(start, table, prices, setup);
-    let node = first_node(start);
-    let n = lists::store(nodes, heads, 0, Found::Nothing, node);
-    lists::push(
-        list,
-        0,
-        Entry {
-            f: f,
-            g: 0,
-            hi: start.hi,
-            lo: start.lo,
-        },
-    );
-    Sizes { nodes: n, list: 1 }
+    let state = ask.start;
+    let f = estimate(question, state);
+    let node = Node {
+        state,
+        cost: 0,
+        parent: None,
+    };
+    let nodes = lists::store(nodes, heads, 0, None, node);
+    lists::push(list, 0, Entry { f, g: 0, state });
+    Sizes { nodes, list: 1 }
 }
 
 // Begins and runs.
+// The bound stands with a plan and without one, so `have` goes beside it.
 pub fn go(
     nodes: &mut [u64],
     heads: &mut [u64],
     list: &mut [u64],
-    table: &[u8],
-    prices: &[u32],
-    setup: Setup,
+    question: &Question<'_>,
     ask: Ask,
-    limits: Limits,
+    limits: Allowances,
     bound: u64,
     have: bool,
 ) -> Left
     requires heads_nonzero { 0 < length heads.old }
     requires roomy { Roomy limits nodes.old list.old }
-    requires ready { Ready setup table.now prices.now }
-    requires window { IsWindow (question_of setup table.now prices.now) (whole ask.start) }
-    ensures { Ran (question_of setup table.now prices.now) ask limits
-        (first_of (question_of setup table.now prices.now) ask (cost_of bound) have) nodes.new heads.new result }
+    requires window { IsWindow (posed question.now) (whole ask.start) }
+    ensures { Ran (posed question.now) ask limits (first_of (posed question.now) ask (cost_of bound) have) nodes.new heads.new result }
 {
-    let sizes = begin(nodes, heads, list, table, prices, setup, ask);
+    let sizes = begin(nodes, heads, list, question, ask);
     let first = Held {
-        bound: bound,
-        have: have,
-        found: false,
-        mark: 0,
+        bound,
+        have,
+        found: None,
     };
-    run::run(
-        nodes, heads, list, table, prices, setup, sizes, first, ask, limits,
-    )
+    run::run(nodes, heads, list, question, sizes, first, ask, limits)
 }
 
-// The steps of the goal that was recorded last, if there is one.
-fn read_steps(nodes: &[u64], heads: &[u64], steps: &mut [u16], ask: Ask, left: Left) -> Back
+// The plan of the goal that was recorded last, if there is one: its steps over the first places of the step list.
+fn read_plan(
+    nodes: &[u64],
+    heads: &[u64],
+    steps: &mut [u16],
+    prices: &[u32],
+    ask: Ask,
+    left: Left,
+) -> Option<Plan>
     requires kept { Kept nodes.now heads.now left.nodes }
     requires count_in_bounds { left.count ≤ length steps.old }
-    ensures { StepsRead ask (nodes_of nodes.now left.nodes) left.count steps.old steps.new left.held.found result }
+    ensures { PlanRead ask prices.now (nodes_of nodes.now left.nodes) left.count steps.old steps.new left.held.found result }
 {
-    let held = left.held;
-    let start = ask.start;
-    let goal = ask.goal;
-    if held.found {
-        return back::reconstruct_steps(nodes, heads, steps, left.nodes, start, goal, left.count);
-    }
-    Back::Lost
+    let ceiling = Cost::from(left.held.found?);
+    let steps_read = back::reconstruct_steps(
+        nodes, heads, steps, left.nodes, ask.start, ask.goal, left.count,
+    )?;
+    Some(Plan {
+        steps: steps_read,
+        cost: costs::cost_for_steps(&steps[..steps_read], prices),
+        ceiling,
+    })
 }
 
-// Begins, runs and reads back.
-pub fn run_and_read(
+// The search of a question between two states.
+pub fn search_for(
     nodes: &mut [u64],
     heads: &mut [u64],
     list: &mut [u64],
     steps: &mut [u16],
-    table: &[u8],
-    prices: &[u32],
-    setup: Setup,
+    question: &Question<'_>,
     ask: Ask,
-    limits: Limits,
-    bound: u64,
-    have: bool,
-) -> Planning
-    requires heads_nonzero { 0 < length heads.old }
-    requires roomy { Roomy limits nodes.old list.old }
-    requires ready { Ready setup table.now prices.now }
-    requires window { IsWindow (question_of setup table.now prices.now) (whole ask.start) }
-    requires most_in_bounds { limits.most ≤ length steps.old }
-    ensures { Planned (question_of setup table.now prices.now) ask limits bound have steps.old steps.new result }
-{
-    let left = go(
-        nodes, heads, list, table, prices, setup, ask, limits, bound, have,
-    );
-    let back = read_steps(nodes, heads, steps, ask, left);
-    Planning {
-        left: left,
-        back: back,
-    }
-}
-
-// What the caller gets.
-fn outcome_of(steps: &[u16], prices: &[u32], left: Left, back: Back) -> Outcome
-    requires { Placed back steps.now }
-    ensures { result ≡ outcome_of left back prices.now steps.now }
-{
-    let held = left.held;
-    let Back::Steps(k) = back else {
-        return Outcome {
-            found: false,
-            steps: 0,
-            cost: Cost::zero(),
-            ceiling: Cost::zero(),
-            ending: left.ending,
-            expansions: left.count,
-        };
-    };
-    Outcome {
-        found: true,
-        steps: k,
-        cost: costs::cost_for_steps(&steps[0..k], prices),
-        ceiling: Cost::unpacked(held.mark),
-        ending: left.ending,
-        expansions: left.count,
-    }
-}
-
-// The search of a table's question.
-pub fn search_table(
-    nodes: &mut [u64],
-    heads: &mut [u64],
-    list: &mut [u64],
-    steps: &mut [u16],
-    table: &[u8],
-    prices: &[u32],
-    setup: Setup,
-    ask: Ask,
-    limits: Limits,
+    limits: Allowances,
     bound: Cost,
     have: bool,
 ) -> Outcome
     requires heads_nonzero { 0 < length heads.old }
     requires roomy { Roomy limits nodes.old list.old }
-    requires ready { Ready setup table.now prices.now }
-    requires window { IsWindow (question_of setup table.now prices.now) (whole ask.start) }
-    requires most_in_bounds { limits.most ≤ length steps.old }
-    requires most_bound { limits.most ≤ 65536 }
-    ensures { SearchedFor (question_of setup table.now prices.now) ask limits bound have result steps.old steps.new }
+    requires window { IsWindow (posed question.now) (whole ask.start) }
+    requires most_in_bounds { limits.max_expansions ≤ length steps.old }
+    requires most_bound { limits.max_expansions ≤ 65536 }
+    ensures { SearchedFor (posed question.now) ask limits bound have result steps.old steps.new }
 {
-    let r = run_and_read(
+    let left = go(
         nodes,
         heads,
         list,
-        steps,
-        table,
-        prices,
-        setup,
+        question,
         ask,
         limits,
-        bound.packed(),
+        u64::from(bound),
         have,
     );
-    let left = r.left;
-    let back = r.back;
-    outcome_of(steps, prices, left, back)
+    Outcome {
+        plan: read_plan(nodes, heads, steps, question.asked.prices, ask, left),
+        ending: left.ending,
+        expansions: left.count,
+    }
 }
 
 // The search from a start window to a goal window, with the bound that the builders gave and whether they have a plan. The plan stands in
@@ -254,28 +169,27 @@ pub fn search_from(
     steps: &mut [u16],
     start: &[u8],
     goal: &[u8],
-    kinds: &[u8],
+    rules: Rules<'_>,
     prices: &[u32],
-    cfg: SearchCfg,
-    limits: Limits,
+    limits: Allowances,
     bound: Cost,
     have: bool,
 ) -> Outcome
     requires heads_nonzero { 0 < length heads.old }
     requires roomy { Roomy limits nodes.old list.old }
-    requires accepted { Accepted cfg kinds.now prices.now goal.now }
-    requires start_fits { StartFits (asked cfg kinds.now prices.now goal.now) start.now }
-    requires most_in_bounds { limits.most ≤ length steps.old }
-    requires most_bound { limits.most ≤ 65536 }
-    ensures { Searched (asked cfg kinds.now prices.now goal.now) start.now limits bound have result steps.old steps.new }
+    requires accepted { Accepted rules.cfg rules.kinds.now prices.now goal.now }
+    requires start_fits { StartFits (asked rules.cfg rules.kinds.now prices.now goal.now) start.now }
+    requires most_in_bounds { limits.max_expansions ≤ length steps.old }
+    requires most_bound { limits.max_expansions ≤ 65536 }
+    ensures { Searched (asked rules.entry.cfg rules.entry.kinds.now prices.now goal.now) start.now limits bound have result steps.old steps.new }
 {
-    let mut table = [0u8; 170];
-    let setup = table::prepare(&mut table, goal, kinds, prices, cfg);
+    let table = Table::new(goal, prices, rules.cfg);
+    let question = table.question(goal, rules, prices);
     let ask = Ask {
         start: PackedState::from_ids(start),
         goal: PackedState::from_ids(goal),
     };
-    search_table(
-        nodes, heads, list, steps, &table, prices, setup, ask, limits, bound, have,
+    search_for(
+        nodes, heads, list, steps, &question, ask, limits, bound, have,
     )
 }

@@ -1,15 +1,27 @@
--- The lists of slots by key, as the arrays `head` and `next` hold them: what `pick` does to them.
-use Rattle.std.specs.Prelude.{◌≡◌, Bool, true, false, List, [], ◌∷◌, ℕ, zero, suc, ◌+◌, ◌≤◌, ◌<◌, eqb, length, set}
+-- The lists of slots by key, as the table of arcs holds them: what `pick` does to them.
+use Rattle.std.specs.Prelude.{◌≡◌, Bool, true, false, Option, Some, None, List, [], ◌∷◌, ℕ, ◌≤◌, ◌<◌, eqb, length, get_or, set, replicate}
 use Rattle.std.proofs.Math.Path.{refl, subst⁻¹}
-use Rattle.std.proofs.Common.{sym, ap, ap₂, ◌∙◌, add-one, arith, get_or-set_same, get_or-set_other}
+use Rattle.std.proofs.Common.{sym, ap, ◌∙◌, arith, get_or-set_same, get_or-set_other}
 use Rattle.std.proofs.Math.Decide.{ℕ_discrete}
 use Rattle.star_swap.specs.Count.{Test, equal, unequal, test}
 use Rattle.star_swap.specs.Star.{at, Pick, nothing, arc, pick_if, pick, trail}
+use Rattle.star_swap.specs.declared.Arcs.{Arcs}
 
--- a list of slots below n in an array, by `next` from h on; 255 ends it
-unfoldable pub Chain : ℕ → List ℕ → ℕ → List ℕ → Type 0
-Chain n next h [] = h ≡ 255
-Chain n next h (i ∷ l) = (h ≡ i) × (i < n) × Chain n next (at next i) l
+abbrev pub arcs_of : (head next : List (Option ℕ)) → Arcs
+arcs_of head next = record { head = head; next = next }
+
+-- no slot yet
+abbrev pub no_arcs : Arcs
+no_arcs = arcs_of (replicate 64 None) (replicate 21 None)
+
+-- the slot at a place of a table, if one stands there
+abbrev pub slot : List (Option ℕ) → ℕ → Option ℕ
+slot l i = get_or l i None
+
+-- a list of slots below n in a table, by `next` from h on
+unfoldable pub Chain : ℕ → List (Option ℕ) → Option ℕ → List ℕ → Type 0
+Chain n next h [] = h ≡ None
+Chain n next h (i ∷ l) = (h ≡ Some i) × (i < n) × Chain n next (slot next i) l
 
 abbrev pub need_if : Bool → ℕ → List ℕ → List ℕ
 need_if true j l = j ∷ l
@@ -20,9 +32,9 @@ unfoldable pub needing : (ℕ → ℕ) → ℕ → List ℕ → List ℕ
 needing g k [] = []
 needing g k (j ∷ R) = need_if (eqb (g j) k) j (needing g k R)
 
--- `head` and `next` hold the slots of R by key
-unfoldable pub Chained : ℕ → (ℕ → ℕ) → List ℕ → List ℕ → List ℕ → Type 0
-Chained n g R head next = (k : ℕ) → k < 64 → Chain n next (at head k) (needing g k R)
+-- the table holds the slots of R by key
+unfoldable pub Chained : ℕ → (ℕ → ℕ) → List ℕ → Arcs → Type 0
+Chained n g R arcs = (k : ℕ) → k < 64 → Chain n arcs.next (slot arcs.head k) (needing g k R)
 
 abbrev Needs : (ℕ → ℕ) → ℕ → List ℕ → Pick → Type 0
 Needs g k R nothing = needing g k R ≡ []
@@ -61,68 +73,88 @@ pick_needs g k (j ∷ R) = go (eqb (g j) k) (test (g j) k) (pick g k R) (pick_ne
       λ k' ne. needs_both g k' j R R' (r.1 k' ne),
     )
 
--- the next slot of a key, read from `head`: what `pick` says of it
-pub data Read (n : ℕ) (g : ℕ → ℕ) (k : ℕ) (R head next : List ℕ) : Pick → Type 0 where
-  ended : at head k ≡ 255 → Read n g k R head next nothing
-  found : {i : ℕ} {R' : List ℕ} → at head k ≡ i → i < n → Chained n g R' (set head k (at next i)) next → Read n g k R head next (arc i R')
+-- what the table gives for a key, and what it holds then: what `pick` says of it
+abbrev pub Taking : (n : ℕ) (g : ℕ → ℕ) → Pick → Option ℕ → (R : List ℕ) → Arcs → Type 0
+Taking n g nothing r R arcs = (r ≡ None) × Chained n g R arcs
+Taking n g (arc i R') r R arcs = (r ≡ Some i) × (i < n) × Chained n g R' arcs
 
-pub read : (n : ℕ) (g : ℕ → ℕ) (k : ℕ) (R head next : List ℕ) → length head ≡ 64 → k < 64 → Chained n g R head next → Read n g k R head next (pick g k R)
-unfolding Chained Chain
-read n g k R head next len lt h = go (pick g k R) (pick_needs g k R)
-  where
-    go : (p : Pick) → Needs g k R p → Read n g k R head next p
-    go nothing e = ended (rw e at (h k lt))
-    go (arc i R') e =
-        let q : (at head k ≡ i) × (i < n) × Chain n next (at next i) (needing g k R') = rw e.0 at (h k lt) in
-        let head' : List ℕ = set head k (at next i) in
-        let each : (k' : ℕ) → k' < 64 → Chain n next (at head' k') (needing g k' R') = λ k' lt'.
-        elim (ℕ_discrete k' k) [
-          | yes s ↦
-              subst⁻¹
-              (λ (z : ℕ). Chain n next (at head' z) (needing g z R'))
-              s
-              (rw (get_or-set_same head k (at next i) 0 (omega arith)) q.2)
-          | no s ↦ rw (get_or-set_other head k k' (at next i) 0 s, ← e.1 k' s) (h k' lt')
-        ] in
-        found q.0 q.1 each
+pub record Took (k : ℕ) (arcs : Arcs) (r : Option ℕ) (arcs' : Arcs) : Type 0 where
+  pub each : (n : ℕ) (g : ℕ → ℕ) (R : List ℕ) → Chained n g R arcs → Taking n g (pick g k R) r R arcs'
 
--- the first n items of an array, from the last to the first
-unfoldable pub rev_take : ℕ → List ℕ → List ℕ
-rev_take zero l = []
-rev_take (suc n) l = at l n ∷ rev_take n l
+module _ (k : ℕ) (arcs : Arcs) (lt : k < 64) where
+  -- no slot in front
+  pub took_none : slot arcs.head k ≡ None → Took k arcs None arcs
+  unfolding Chained Chain
+  took_none e = record { each = λ n g R h. go n g R h (pick g k R) (pick_needs g k R) }
+    where
+      go : (n : ℕ) (g : ℕ → ℕ) (R : List ℕ) → Chained n g R arcs → (p : Pick) → Needs g k R p → Taking n g p None R arcs
+      go n g R h nothing m = (refl, h)
+      go n g R h (arc i R') m =
+          let q : (slot arcs.head k ≡ Some i) × (i < n) × Chain n arcs.next (slot arcs.next i) (needing g k R') = rw m.0 at (h k lt) in
+          let z : None ≡ Some i = sym e ∙ q.0 in
+          absurd cc
 
-pub rev_take_set : (n : ℕ) (l : List ℕ) (i v : ℕ) → n ≤ i → rev_take n (set l i v) ≡ rev_take n l
-unfolding rev_take
-rev_take_set zero l i v h = refl
-rev_take_set (suc n) l i v h = ap₂ {C = List ℕ} (λ x m. x ∷ m) (get_or-set_other l i n v 0 (omega arith)) (rev_take_set n l i v (omega arith))
+  -- the slot in front goes
+  pub took_some : (i : ℕ) → length arcs.head ≡ 64 → slot arcs.head k ≡ Some i → Took k arcs (Some i) (arcs_of (set arcs.head k (slot arcs.next i)) arcs.next)
+  unfolding Chained Chain
+  took_some i len e = record { each = λ n g R h. go n g R h (pick g k R) (pick_needs g k R) }
+    where
+      arcs' : Arcs
+      arcs' = arcs_of (set arcs.head k (slot arcs.next i)) arcs.next
 
-pub rev_take_push : (n : ℕ) (l : List ℕ) (v : ℕ) → n < length l → rev_take (n + 1) (set l n v) ≡ v ∷ rev_take n l
-unfolding rev_take
-rev_take_push n l v h =
-    rw (add-one n) (ap₂ {C = List ℕ} (λ x m. x ∷ m) (get_or-set_same l n v 0 h) (rev_take_set n l n v (omega arith)))
+      go : (n : ℕ) (g : ℕ → ℕ) (R : List ℕ) → Chained n g R arcs → (p : Pick) → Needs g k R p → Taking n g p (Some i) R arcs'
+      go n g R h nothing m =
+          let z : slot arcs.head k ≡ None = (rw m at (h k lt)) in
+          let y : None ≡ Some i = sym z ∙ e in
+          absurd cc
+      go n g R h (arc j R') m =
+          let q : (slot arcs.head k ≡ Some j) × (j < n) × Chain n arcs.next (slot arcs.next j) (needing g k R') = rw m.0 at (h k lt) in
+          let y : Some i ≡ Some j = sym e ∙ q.0 in
+          let x : i ≡ j = cc in
+          let each : (k' : ℕ) → k' < 64 → Chain n arcs.next (slot arcs'.head k') (needing g k' R') = λ k' lt'.
+          elim (ℕ_discrete k' k) [
+            | yes s ↦
+                subst⁻¹
+                (λ (z : ℕ). Chain n arcs.next (slot arcs'.head z) (needing g z R'))
+                s
+                (rw (get_or-set_same arcs.head k (slot arcs.next i) None (omega arith), x) q.2)
+            | no s ↦ rw (get_or-set_other arcs.head k k' (slot arcs.next i) None s, ← m.1 k' s) (h k' lt')
+          ] in
+          (y, q.1, each)
 
--- what the trail takes: head and next hold the slots of a list R, at most 20, each below the window's length
-pub record Ready (cur : List ℕ) (start : ℕ) (head next out : List ℕ) : Type 0 where
+-- slots below 21 stand in the table
+pub record Held (arcs : Arcs) : Type 0 where
+  pub bound : ℕ
+  pub short : bound ≤ 21
   pub need : ℕ → ℕ
   pub slots : List ℕ
-  pub held : Chained (length cur) need slots head next
+  pub held : Chained bound need slots arcs
+
+pub held_slot : (k i : ℕ) (arcs : Arcs) → Held arcs → k < 64 → slot arcs.head k ≡ Some i → i < 21
+unfolding Chained Chain
+held_slot k i arcs h lt e = go (needing h.need k h.slots) (h.held k lt)
+  where
+    go : (l : List ℕ) → Chain h.bound arcs.next (slot arcs.head k) l → i < 21
+    go [] c = let z : Some i ≡ None = sym e ∙ c in absurd cc
+    go (j ∷ l) c = let y : Some i ≡ Some j = sym e ∙ c.0 in let x : i ≡ j = cc in omega (arith, c.1, h.short)
+
+-- what the trail takes: the table holds the slots of a list R, at most 20, each below the window's length
+pub record Ready (cur : List ℕ) (start : ℕ) (arcs : Arcs) : Type 0 where
+  pub need : ℕ → ℕ
+  pub slots : List ℕ
+  pub held : Chained (length cur) need slots arcs
   pub few : length slots ≤ 20
   pub short : length cur ≤ 21
-  pub head_length : length head ≡ 64
-  pub out_length : length out ≡ 21
   pub start_key : start < 64
   pub keys : (i : ℕ) → i < length cur → at cur i < 64
 
--- what it gives
-abbrev pub Gave : (cur : List ℕ) (start : ℕ) (head next head' out : List ℕ) (r : ℕ) → Type 0
-Gave cur start head next head' out r =
+-- what it gives: its slots, in the order of the swaps
+abbrev pub Gave : (cur : List ℕ) (start : ℕ) (arcs arcs' : Arcs) (out : List ℕ) → Type 0
+Gave cur start arcs arcs' out =
     (g : ℕ → ℕ) (R : List ℕ) →
-    Chained (length cur) g R head next →
+    Chained (length cur) g R arcs →
     length R ≤ 20 →
-    (rev_take r out ≡ (trail g (at cur) start R).out) × Chained (length cur) g (trail g (at cur) start R).left head' next
+    (out ≡ (trail g (at cur) start R).out) × Chained (length cur) g (trail g (at cur) start R).left arcs'
 
-pub record Given (cur : List ℕ) (start : ℕ) (head next head' out : List ℕ) (r : ℕ) : Type 0 where
-  pub few : r ≤ 20
-  pub head_length : length head' ≡ 64
-  pub out_length : length out ≡ 21
-  pub gave : Gave cur start head next head' out r
+pub record Given (cur : List ℕ) (start : ℕ) (arcs arcs' : Arcs) (out : List ℕ) : Type 0 where
+  pub gave : Gave cur start arcs arcs' out

@@ -1,5 +1,5 @@
 -- How the lists of slots by key are made, from the last slot up.
-use Rattle.std.specs.Prelude.{◌≡◌, Bool, true, false, eqb, drop, replicate}
+use Rattle.std.specs.Prelude.{◌≡◌, Bool, true, false, Option, Some, None, eqb, drop, replicate}
 use Rattle.std.proofs.Math.Path.{refl, subst⁻¹}
 use Rattle.std.proofs.Common.{sym, ◌∙◌, arith, length-set, drop_of_length-le, get_or-set_same, get_or-set_other}
 use mathlib.Core.List.{List, [], ◌∷◌}
@@ -10,7 +10,8 @@ use Rattle.std.proofs.lemmas.List.{get_or-replicate}
 use Rattle.std.proofs.Math.Seq.{drop-cons}
 use Rattle.star_swap.specs.Count.{Test, equal, unequal, test}
 use Rattle.star_swap.specs.Star.{at, slot_if, misplaced}
-use Rattle.star_swap.specs.Chain.{Chain, Chained, need_if, needing, needs_take, needs_skip}
+use Rattle.star_swap.specs.Chain.{slot, arcs_of, Chain, Chained, need_if, needing, needs_take, needs_skip}
+use Rattle.star_swap.specs.declared.Arcs.{Arcs}
 
 -- every item is above p
 unfoldable pub Above : ℕ → List ℕ → Type 0
@@ -42,39 +43,39 @@ above_misplaced p (x ∷ cur) (y ∷ goal) = go (eqb x y) (above_less (suc p) p 
     go false b = (omega arith, b)
 
 -- a store to `next` below a list leaves it
-chain_set : (n : ℕ) (next : List ℕ) (p v h : ℕ) (l : List ℕ) → Above p l → Chain n next h l → Chain n (set next p v) h l
+chain_set : (n : ℕ) (next : List (Option ℕ)) (p : ℕ) (v h : Option ℕ) (l : List ℕ) → Above p l → Chain n next h l → Chain n (set next p v) h l
 unfolding Above Chain
 chain_set n next p v h [] a c = c
 chain_set n next p v h (i ∷ l) a c =
-    (c.0, c.1, rw (get_or-set_other next p i v 0 (omega (arith, a.0))) (chain_set n next p v (at next i) l a.1 c.2))
+    (c.0, c.1, rw (get_or-set_other next p i v None (omega (arith, a.0))) (chain_set n next p v (slot next i) l a.1 c.2))
 
 -- one more slot, in front of its key's list
-link_one : (n : ℕ) (g : ℕ → ℕ) (R head next : List ℕ) (p : ℕ) → length head ≡ 64 → length next ≡ 21 → p < n → n ≤ 21 → g p < 64 → Above p R →
-    Chained n g R head next → Chained n g (p ∷ R) (set head (g p) p) (set next p (at head (g p)))
+link_one : (n : ℕ) (g : ℕ → ℕ) (R : List ℕ) (head next : List (Option ℕ)) (p : ℕ) → length head ≡ 64 → length next ≡ 21 → p < n → n ≤ 21 → g p < 64 → Above p R →
+    Chained n g R (arcs_of head next) → Chained n g (p ∷ R) (arcs_of (set head (g p) (Some p)) (set next p (slot head (g p))))
 unfolding Chained
 link_one n g R head next p lh ln lt short low a h k kl =
     elim (ℕ_discrete k (g p)) [
       | yes e ↦
           subst⁻¹
-          (λ (z : ℕ). Chain n next' (at head' z) (needing g z (p ∷ R)))
+          (λ (z : ℕ). Chain n next' (slot head' z) (needing g z (p ∷ R)))
           e
-          (rw (get_or-set_same head (g p) p 0 (omega arith), needs_take g (g p) p R refl)
+          (rw (get_or-set_same head (g p) (Some p) None (omega arith), needs_take g (g p) p R refl)
           (unfold Chain in (
             refl,
             lt,
-            rw (get_or-set_same next p (at head (g p)) 0 (omega arith))
-                (chain_set n next p (at head (g p)) (at head (g p)) (needing g (g p) R) (above_needing g (g p) p R a) (h (g p) low)),
+            rw (get_or-set_same next p (slot head (g p)) None (omega arith))
+                (chain_set n next p (slot head (g p)) (slot head (g p)) (needing g (g p) R) (above_needing g (g p) p R a) (h (g p) low)),
           )))
       | no e ↦
-          rw (get_or-set_other head (g p) k p 0 e, needs_skip g k p R (λ q. e (sym q)))
-          (chain_set n next p (at head (g p)) (at head k) (needing g k R) (above_needing g k p R a) (h k kl))
+          rw (get_or-set_other head (g p) k (Some p) None e, needs_skip g k p R (λ q. e (sym q)))
+          (chain_set n next p (slot head (g p)) (slot head k) (needing g k R) (above_needing g k p R a) (h k kl))
     ]
   where
-    head' : List ℕ
-    head' = set head (g p) p
+    head' : List (Option ℕ)
+    head' = set head (g p) (Some p)
 
-    next' : List ℕ
-    next' = set next p (at head (g p))
+    next' : List (Option ℕ)
+    next' = set next p (slot head (g p))
 
 -- the misplaced slots from p on
 unfoldable pub from : (cur goal : List ℕ) → ℕ → List ℕ
@@ -103,28 +104,28 @@ module _ (cur goal : List ℕ) (same : length cur ≡ length goal) where
   unfolding from misplaced
   from_end = rw (drop_of_length-le cur {i = length cur} (omega arith)) refl
 
-  pub record Linked (p : ℕ) (head next : List ℕ) : Type 0 where
-    pub head_length : length head ≡ 64
-    pub next_length : length next ≡ 21
-    pub held : Chained (length cur) (at goal) (from cur goal p) head next
+  pub record Linked (p : ℕ) (arcs : Arcs) : Type 0 where
+    pub head_length : length arcs.head ≡ 64
+    pub next_length : length arcs.next ≡ 21
+    pub held : Chained (length cur) (at goal) (from cur goal p) arcs
 
-  pub linked_start : (next : List ℕ) (p : ℕ) → p ≡ length cur → length next ≡ 21 → Linked p (replicate 64 255) next
+  pub linked_start : (p : ℕ) → p ≡ length cur → Linked p (arcs_of (replicate 64 None) (replicate 21 None))
   unfolding Chained needing Chain
-  linked_start next p e ln =
-      record { head_length = refl; next_length = ln; held = λ k lt. rw (e, from_end) (get_or-replicate 64 k 255 0 lt) }
+  linked_start p e =
+      record { head_length = refl; next_length = refl; held = λ k lt. rw (e, from_end) (get_or-replicate 64 k None None lt) }
 
-  module _ (short : length cur ≤ 21) (p : ℕ) (head next : List ℕ) (h : p < length cur) (l : Linked (suc p) head next) where
-    pub link_right : at cur p ≡ at goal p → Linked p head next
+  module _ (short : length cur ≤ 21) (p : ℕ) (arcs : Arcs) (h : p < length cur) (l : Linked (suc p) arcs) where
+    pub link_right : at cur p ≡ at goal p → Linked p arcs
     link_right e =
         record { head_length = l.head_length; next_length = l.next_length; held = rw (from_right p h e) l.held }
 
-    pub link_wrong : at goal p < 64 → (at cur p ≡ at goal p → ⊥) → Linked p (set head (at goal p) p) (set next p (at head (at goal p)))
+    pub link_wrong : at goal p < 64 → (at cur p ≡ at goal p → ⊥) → Linked p (arcs_of (set arcs.head (at goal p) (Some p)) (set arcs.next p (slot arcs.head (at goal p))))
     link_wrong low ne =
         record {
-          head_length = length-set head (at goal p) p ∙ l.head_length;
-          next_length = length-set next p (at head (at goal p)) ∙ l.next_length;
+          head_length = length-set arcs.head (at goal p) (Some p) ∙ l.head_length;
+          next_length = length-set arcs.next p (slot arcs.head (at goal p)) ∙ l.next_length;
           held =
               rw (from_wrong p h ne)
-              (link_one (length cur) (at goal) (from cur goal (suc p)) head next p l.head_length l.next_length h short low
+              (link_one (length cur) (at goal) (from cur goal (suc p)) arcs.head arcs.next p l.head_length l.next_length h short low
               (unfold from in above_misplaced p (drop (suc p) cur) (drop (suc p) goal)) l.held);
         }

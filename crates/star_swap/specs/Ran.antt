@@ -2,13 +2,12 @@
 use Rattle.std.specs.Prelude.{ℕ, suc, ◌+◌, ◌<◌, ◌≤◌, Bool, true, false, ◌&&◌, List, [], ◌∷◌, ◌≡◌, length, ltb}
 use Rattle.std.proofs.Math.Path.{refl}
 use Rattle.std.proofs.Common.{ap, ◌∙◌, arith, lt-ltb, ltb-true}
-use Rattle.std.proofs.Math.Option.{none, some}
+use Rattle.std.specs.Prelude.{None, Some}
 use Rattle.std.proofs.Math.Decide.{ℕ_discrete}
 use Rattle.costs.specs.Choice.{◌if◌otherwise◌}
 use Rattle.costs.specs.Laws.{decoded_code}
 use Rattle.costs.specs.Step.{decoded}
 use Rattle.costs.specs.declared.Step.TheVariants.{Swap}
-use Rattle.costs.specs.declared.Decoded.TheVariants.{Known}
 use Rattle.replay.specs.Machine.{Rules, allows, after, onward, ran_on, ends}
 use Rattle.replay.specs.Laws.{and_left, and_right}
 use Rattle.star_swap.specs.Count.{cnt, cnt_by, δ_refl, δ_neg}
@@ -27,7 +26,7 @@ ran_swaps q i [] w m h = refl
 ran_swaps q i (d ∷ S) w m h =
     let here = h d (omega (arith, δ_refl d)) in
     let l : length (swap_at w d) ≡ length w = swap_length w d here.0 here.2 in
-    let e : decoded (512 + d) ≡ Known (Swap d) = decoded_code (Swap d) (omega arith) in
+    let e : decoded (512 + d) ≡ Some (Swap d) = decoded_code (Swap d) (omega arith) in
     let a : allows q (Swap d) (length w) ≡ true = swap_allowed q d (length w) here.0 here.1 here.2 in
     let s : after (Swap d) w ≡ swap_at w d = unfold after in refl in
     rw (e, a, s)
@@ -61,7 +60,7 @@ unfolding ran_on run cnt_by
 ran_routes q i [] w goal m e =
     record { reaches = record { depths = λ d p. absurd (omega arith); ends = cc }; below = λ d p. absurd (omega arith) }
 ran_routes q i (d ∷ S) w goal m e =
-    let k : decoded (512 + d) ≡ Known (Swap d) = decoded_code (Swap d) (m d (omega (arith, δ_refl d))) in
+    let k : decoded (512 + d) ≡ Some (Swap d) = decoded_code (Swap d) (m d (omega (arith, δ_refl d))) in
     go (λ f. ran_routes q (suc i) S (swap_at w d) goal (λ j p. m j (omega arith)) f) (allows q (Swap d) (length w)) refl (rw k at e)
   where
     next : Routes q.swap_max (swap_at w d) goal S → Allowed q d (length w) → Routes q.swap_max w goal (d ∷ S)
@@ -86,7 +85,7 @@ ran_routes q i (d ∷ S) w goal m e =
               ];
         }
 
-    go : (ran_on q (suc i) (codes S) (swap_at w d) ≡ ends goal → Routes q.swap_max (swap_at w d) goal S) → (b : Bool) → allows q (Swap d) (length w) ≡ b → onward i (λ v. ran_on q (suc i) (codes S) v) (some (after (Swap d) w) if b otherwise none) ≡ ends goal → Routes q.swap_max w goal (d ∷ S)
+    go : (ran_on q (suc i) (codes S) (swap_at w d) ≡ ends goal → Routes q.swap_max (swap_at w d) goal S) → (b : Bool) → allows q (Swap d) (length w) ≡ b → onward i (λ v. ran_on q (suc i) (codes S) v) (Some (after (Swap d) w) if b otherwise None) ≡ ends goal → Routes q.swap_max w goal (d ∷ S)
     go h false z f = let n : ◌≡◌ {A = ℕ} 0 1 = cc in absurd (omega arith)
     go h true z f =
         let s : after (Swap d) w ≡ swap_at w d = unfold after in refl in

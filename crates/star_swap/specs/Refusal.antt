@@ -1,6 +1,9 @@
 -- The star-swap call: its refusals, its answer and its step list.
 use Rattle.std.specs.Prelude.{ℕ, zero, suc, Bool, true, false, not, ◌&&◌, ◌||◌, List, [], ◌∷◌, ◌++◌, length, drop, eqb, ltb}
+use Rattle.std.specs.Prelude.{Result, Ok, Err}
 use Rattle.costs.specs.Choice.{◌if◌otherwise◌}
+use Rattle.costs.specs.Refusal.{number_of}
+use Rattle.costs.specs.declared.Refusal.{Refusal}
 use Rattle.costs.specs.Table.{any_over, count_of}
 use Rattle.star_swap.specs.Star.{star_swaps, codes}
 use Rattle.star_swap.specs.declared.Written.{Written}
@@ -42,6 +45,11 @@ abbrev pub written : ℕ → List ℕ → List ℕ → Written × List ℕ
 written number plan old =
     (record { refusal = 0; count = length plan }, plan ++ drop (length plan) old) if eqb number 0 otherwise
     (record { refusal = number; count = 0 }, old)
+
+-- what a builder's call tells: its number of steps, or the number of a refusal
+abbrev pub written_of : Result ℕ Refusal → Written
+written_of (Ok n) = record { refusal = 0; count = n }
+written_of (Err r) = record { refusal = number_of r; count = 0 }
 
 -- star-swap's answer and its step list (document 01, the public calls)
 unfoldable pub star_swapped : ℕ → List ℕ → List ℕ → List ℕ → Written × List ℕ

@@ -22,8 +22,3 @@ over_none m (x ∷ w) e (suc i) l = over_none m w (or_right (ltb m x) (any_over 
 pub by_test {ℓ} : {A : Type ℓ} (P : A → Type 0) (b : Bool) (x y : A) → (b ≡ true → P x) → (b ≡ false → P y) → P (x if b otherwise y)
 by_test P true x y f g = f refl
 by_test P false x y f g = g refl
-
--- what is not true is false
-pub not_so : (b : Bool) → (b ≡ true → ⊥) → b ≡ false
-not_so true h = absurd (h refl)
-not_so false h = refl

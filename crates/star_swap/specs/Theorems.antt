@@ -1,7 +1,7 @@
 -- What star-swap's answer is worth, and the starred questions of document 01.
 use Rattle.std.specs.Prelude.{ℕ, zero, suc, ◌<◌, ◌≤◌, false, ◌≡◌, refl, length, take, replicate}
 use mathlib.Core.List.{List, [], ◌∷◌}
-use Rattle.std.proofs.Math.Path.{ap}
+use Rattle.std.proofs.Math.Path.{ap, sym}
 use Rattle.std.proofs.Common.{◌∙◌, arith, eq-eqb}
 use Rattle.std.proofs.lemmas.List.{length-map}
 use Rattle.costs.specs.Choice.{◌if◌otherwise◌}
@@ -35,7 +35,7 @@ module _ (sm : ℕ) (start goal : List ℕ) (places : ℕ) where
 
   -- at most 30 steps, so the least step list holds them
   pub star_swap_few : swap_refusal sm start goal places ≡ 0 → length (codes (star_swaps start goal)) ≤ 30
-  star_swap_few h = omega (arith, star_few start goal (swap_pair sm start goal places _ refl h), length-map (star_swaps start goal) code)
+  star_swap_few h = omega (arith, star_few start goal (swap_pair sm start goal places (sym h)), length-map (star_swaps start goal) code)
 
   -- 9 is given only where no sequence of swaps below swap_max leads from the start to the goal,
   pub nine_none : swap_refusal sm start goal places ≡ 9 → (S : List ℕ) → Routes sm start goal S → ⊥

@@ -1,39 +1,55 @@
--- The invariant of the trail's loop, over arrays, and its steps.
-use Rattle.std.proofs.Math.Path.{◌≡◌, refl, ap, subst, subst⁻¹}
-use Rattle.std.proofs.Common.{◌∙◌, get_or-set_same, get_or-set_other}
-use mathlib.Core.List.{List, ◌∷◌}
-use Prim.Native.Nat.{ℕ, zero, suc, ◌+◌, ◌*◌, ◌-◌, ◌≤◌, ◌<◌}
-use native.Mathlib.Omega.{arith}
-use Rattle.std.proofs.Math.Decide.{ℕ_discrete}
-use Rattle.std.proofs.Math.ListN.{length, length-set}
-use Rattle.std.specs.Prelude.{set}
+-- The invariant of the trail's loop, over the table of arcs, the stack and the output, and its steps.
+use Rattle.std.specs.Prelude.{◌≡◌, refl, Option, Some, None, List, [], ◌∷◌, ◌++◌, reverse, ℕ, zero, suc, ◌+◌, ◌-◌, ◌*◌, ◌≤◌, ◌<◌, length}
+use Rattle.std.proofs.Common.{sym, ap, subst, ◌∙◌, arith, length-append}
+use Rattle.std.proofs.Math.Decide.{dec_lt}
+use Rattle.std.proofs.Math.Seq.{get_or-append_seam}
+use Rattle.std.proofs.lemmas.List.{reverse-append, length-reverse, get_or-reverse, get_or_append_left}
+use Rattle.std.proofs.lemmas.Option.{slice_get_within, get_or_from_slice_get}
+use Rattle.std.specs.List.{slice_get}
+use native.Mathlib.Numerals.{unary_clauses}
 use Rattle.star_swap.specs.Star.{at, Pick, nothing, arc, pick, key_of, Trail, trail_step, trail_loop, trail}
 use Rattle.star_swap.specs.Trail.{Picked, pick_is}
-use Rattle.star_swap.specs.Chain.{Chained, Read, ended, found, read, rev_take, rev_take_push, Gave}
+use Rattle.star_swap.specs.Chain.{Chained, Taking, Took, Held, Ready, Gave}
+use Rattle.star_swap.specs.declared.Arcs.{Arcs}
 
-module _ (cur next : List ℕ) (start : ℕ) where
+reverse_push : (l : List ℕ) (x : ℕ) → reverse (l ++ x ∷ []) ≡ x ∷ reverse l
+reverse_push l x = reverse-append l (x ∷ [])
+
+-- a list without a last number
+last_some : (l : List ℕ) (y : ℕ) → slice_get (y ∷ l) (length l) ≡ None → ⊥
+last_some [] y e = cc
+last_some (z ∷ l) y e = last_some l z e
+
+pub empty_is : (l : List ℕ) → slice_get l (length l - 1) ≡ None → l ≡ []
+empty_is [] e = refl
+empty_is (y ∷ l) e = absurd (last_some l y (simp unary_clauses at e))
+
+-- the key of the stack's top
+key_top : (c : ℕ → ℕ) (start : ℕ) (l : List ℕ) (x : ℕ) → slice_get l (length l - 1) ≡ Some x → key_of c start (reverse l) ≡ c x
+key_top c start l x s =
+    let n : length l - 1 < length l = slice_get_within l (length l - 1) x s in
+    head (reverse l) (omega (arith, length-reverse l)) ∙ ap c (get_or-reverse l 0 0 (omega arith) ∙ get_or_from_slice_get l (length l - 1 - 0) x 0 (ap (slice_get l) {x = length l - 1 - 0} {y = length l - 1} (omega arith) ∙ s))
+  where
+    head : (w : List ℕ) → 0 < length w → key_of c start w ≡ c (at w 0)
+    head [] h = absurd (omega arith)
+    head (y ∷ w) h = refl
+
+module _ (cur : List ℕ) (start : ℕ) where
   -- the loop's state against the definition's, from the slots R₀ on
-  pub record State (g : ℕ → ℕ) (R₀ head out stack : List ℕ) (sp n key : ℕ) : Type 0 where
+  pub record State (g : ℕ → ℕ) (R₀ : List ℕ) (arcs : Arcs) (out stack : List ℕ) (key : ℕ) : Type 0 where
     pub rest : List ℕ
     pub fuel : ℕ
-    pub held : Chained (length cur) g rest head next
-    pub enough : 2 * length rest + sp < fuel
-    pub sum : sp + n + length rest ≡ length R₀
-    pub goes : trail_loop g (at cur) start fuel (rev_take sp stack) (rev_take n out) rest ≡ trail g (at cur) start R₀
-    pub at_key : key ≡ key_of (at cur) start (rev_take sp stack)
+    pub held : Chained (length cur) g rest arcs
+    pub enough : 2 * length rest + length stack < fuel
+    pub sum : length stack + length out + length rest ≡ length R₀
+    pub goes : trail_loop g (at cur) start fuel (reverse stack) (reverse out) rest ≡ trail g (at cur) start R₀
+    pub at_key : key ≡ key_of (at cur) start (reverse stack)
 
-  abbrev States : (head₀ head out stack : List ℕ) (sp n key : ℕ) → Type 0
-  States head₀ head out stack sp n key =
-      (g : ℕ → ℕ) (R : List ℕ) → Chained (length cur) g R head₀ next → length R ≤ 20 → State g R head out stack sp n key
-
-  pub record TrailInv (head₀ head out stack : List ℕ) (sp n key : ℕ) : Type 0 where
-    pub head_length : length head ≡ 64
-    pub out_length : length out ≡ 21
-    pub stack_length : length stack ≡ 21
-    pub room : sp + n ≤ 20
+  pub record TrailInv (arcs₀ arcs : Arcs) (out stack : List ℕ) (key : ℕ) : Type 0 where
+    pub room : length stack + length out ≤ 20
     pub key_low : key < 64
-    pub slots_low : (i : ℕ) → i < sp → at stack i < length cur
-    pub states : States head₀ head out stack sp n key
+    pub slots_low : (i : ℕ) → i < length stack → at stack i < length cur
+    pub states : (g : ℕ → ℕ) (R : List ℕ) → Chained (length cur) g R arcs₀ → length R ≤ 20 → State g R arcs out stack key
 
   -- one turn of the definition, where the fuel is enough
   opened : (g : ℕ → ℕ) (f k : ℕ) (st out R : List ℕ) (t : Trail) → k < f → trail_loop g (at cur) start f st out R ≡ t →
@@ -42,171 +58,156 @@ module _ (cur next : List ℕ) (start : ℕ) where
   opened g zero k st out R t lt e = absurd (omega arith)
   opened g (suc m) k st out R t lt e = (m, omega arith, e)
 
-  module _ (short : length cur ≤ 21) (head₀ head out stack : List ℕ) (sp n key : ℕ) (inv : TrailInv head₀ head out stack sp n key) where
-    -- a turn at a state: what `pick` gives there, and what is left to do
-    record Turn (g : ℕ → ℕ) (R₀ rest : List ℕ) (m : ℕ) (p : Pick) : Type 0 where
-      sum : sp + n + length rest ≡ length R₀
-      held : Chained (length cur) g rest head next
-      fuel : 2 * length rest + sp ≤ m
-      reads : Read (length cur) g key rest head next p
-      picks : Picked g key rest p
-      goes : trail_step (rev_take sp stack) (rev_take n out) rest p (trail_loop g (at cur) start m) ≡ trail g (at cur) start R₀
+  -- the loop starts with nothing taken
+  pub begin : (arcs : Arcs) → start < 64 → TrailInv arcs arcs [] [] start
+  unfolding trail
+  begin arcs low =
+      record {
+        room = omega arith;
+        key_low = low;
+        slots_low = λ i h. absurd (omega arith);
+        states = λ g R h few. record { rest = R; fuel = suc (2 * length R); held = h; enough = omega arith; sum = omega arith; goes = refl; at_key = refl };
+      }
 
-    turn : (g : ℕ → ℕ) (R₀ : List ℕ) → State g R₀ head out stack sp n key → (rest : List ℕ) × (m : ℕ) × Turn g R₀ rest m (pick g key rest)
-    turn g R₀ s =
-        let o = opened g s.fuel (2 * length s.rest + sp) (rev_take sp stack) (rev_take n out) s.rest (trail g (at cur) start R₀) s.enough s.goes in (
+  -- the table holds slots below 21
+  pub holds : (arcs₀ arcs : Arcs) (out stack : List ℕ) (key : ℕ) → TrailInv arcs₀ arcs out stack key → Ready cur start arcs₀ → Held arcs
+  holds arcs₀ arcs out stack key inv a =
+      let s = inv.states a.need a.slots a.held a.few in
+      record { bound = length cur; short = a.short; need = a.need; slots = s.rest; held = s.held }
+
+  module _ (arcs₀ arcs arcs' : Arcs) (out stack : List ℕ) (key : ℕ) (inv : TrailInv arcs₀ arcs out stack key) where
+    -- a turn at a state: what `pick` gives there, and what is left to do
+    record Turn (g : ℕ → ℕ) (R₀ : List ℕ) (r : Option ℕ) (rest : List ℕ) (m : ℕ) (p : Pick) : Type 0 where
+      sum : length stack + length out + length rest ≡ length R₀
+      fuel : 2 * length rest + length stack ≤ m
+      took : Taking (length cur) g p r rest arcs'
+      picks : Picked g key rest p
+      goes : trail_step (reverse stack) (reverse out) rest p (trail_loop g (at cur) start m) ≡ trail g (at cur) start R₀
+
+    turn : (r : Option ℕ) → Took key arcs r arcs' → (g : ℕ → ℕ) (R₀ : List ℕ) → State g R₀ arcs out stack key → (rest : List ℕ) × (m : ℕ) × Turn g R₀ r rest m (pick g key rest)
+    turn r t g R₀ s =
+        let o = opened g s.fuel (2 * length s.rest + length stack) (reverse stack) (reverse out) s.rest (trail g (at cur) start R₀) s.enough s.goes in (
           s.rest,
           o.0,
           record {
             sum = s.sum;
-            held = s.held;
             fuel = o.1;
-            reads = read (length cur) g key s.rest head next inv.head_length inv.key_low s.held;
+            took = t.each (length cur) g s.rest s.held;
             picks = pick_is g key s.rest;
             goes = rw s.at_key o.2;
           },
         )
 
-    not_ended : (g : ℕ → ℕ) (rest : List ℕ) {i : ℕ} {R' : List ℕ} → Read (length cur) g key rest head next (arc i R') → at head key ≡ 255 → ⊥
-    not_ended g rest (found e lt h) q = omega (arith, e, lt, q, short)
-
-    is_ended : (g : ℕ → ℕ) (rest : List ℕ) → Read (length cur) g key rest head next nothing → at head key ≡ 255
-    is_ended g rest (ended e) = e
-
-    -- no slot left for the key, and the stack is empty
-    pub leave : at head key ≡ 255 → sp ≡ 0 → Gave cur start head₀ next head out n
-    unfolding rev_take
-    leave no-arc e g R h few =
-        let s = turn g R (inv.states g R h few) in
-        go s.0 s.1 (pick g key s.0) s.2
-      where
-        go : (rest : List ℕ) (m : ℕ) (p : Pick) → Turn g R rest m p →
-            (rev_take n out ≡ (trail g (at cur) start R).out) × Chained (length cur) g (trail g (at cur) start R).left head next
-        go rest m nothing t =
-            let q : ◌≡◌ {A = Trail} (record { out = rev_take n out; left = rest }) (trail g (at cur) start R) = rw e at t.goes in
-            (ap (λ (r : Trail). r.out) q, subst (λ (r : Trail). Chained (length cur) g r.left head next) q t.held)
-        go rest m (arc i R') t = absurd (not_ended g rest t.reads no-arc)
-
-    -- no slot left for the key: the stack's top goes out
-    module _ (no-arc : at head key ≡ 255) (s : ℕ) (e : sp ≡ suc s) (key' : ℕ) (low : key' < 64)
-        (is_key : key' ≡ key_of (at cur) start (rev_take s stack)) where
-      pop_state : (g : ℕ → ℕ) (R : List ℕ) → State g R head out stack sp n key → State g R head (set out n (at stack s)) stack s (n + 1) key'
-      unfolding rev_take
-      pop_state g R st =
-          let q = turn g R st in
-          go q.0 q.1 (pick g key q.0) q.2
+    -- no slot left for the key
+    module _ (t : Took key arcs None arcs') where
+      -- and the stack is empty: the trail ends
+      pub leave : stack ≡ [] → Gave cur start arcs₀ arcs' (reverse out)
+      leave e g R h few =
+          let s = turn None t g R (inv.states g R h few) in
+          go s.0 s.1 (pick g key s.0) s.2
         where
-          go : (rest : List ℕ) (m : ℕ) (p : Pick) → Turn g R rest m p → State g R head (set out n (at stack s)) stack s (n + 1) key'
+          go : (rest : List ℕ) (m : ℕ) (p : Pick) → Turn g R None rest m p →
+              (reverse out ≡ (trail g (at cur) start R).out) × Chained (length cur) g (trail g (at cur) start R).left arcs'
           go rest m nothing t =
-              let q : trail_loop g (at cur) start m (rev_take s stack) (at stack s ∷ rev_take n out) rest ≡ trail g (at cur) start R = rw e at t.goes in
-              record {
-                rest = rest;
-                fuel = m;
-                held = t.held;
-                enough = omega (arith, t.fuel);
-                sum = omega (arith, t.sum);
-                goes = rw (rev_take_push n out (at stack s) (omega (arith, inv.room, inv.out_length))) q;
-                at_key = is_key;
-              }
-          go rest m (arc i R') t = absurd (not_ended g rest t.reads no-arc)
+              let q : ◌≡◌ {A = Trail} (record { out = reverse out; left = rest }) (trail g (at cur) start R) = rw e at t.goes in
+              (ap (λ (r : Trail). r.out) q, subst (λ (r : Trail). Chained (length cur) g r.left arcs') q t.took.1)
+          go rest m (arc i R') t = let z : None ≡ Some i = t.took.0 in absurd cc
 
-      pub pop : TrailInv head₀ head (set out n (at stack s)) stack s (n + 1) key'
-      pop =
+      -- else the stack's top goes out
+      pop : (below : List ℕ) (i key' : ℕ) → stack ≡ below ++ i ∷ [] → key' < 64 → key' ≡ key_of (at cur) start (reverse below) → TrailInv arcs₀ arcs' (out ++ i ∷ []) below key'
+      pop below i key' e low is_key =
           record {
-            head_length = inv.head_length;
-            out_length = length-set out n (at stack s) ∙ inv.out_length;
-            stack_length = inv.stack_length;
-            room = omega (arith, inv.room);
+            room = omega (arith, inv.room, ap length e, length-append below (i ∷ []), length-append out (i ∷ []));
             key_low = low;
-            slots_low = λ i h. inv.slots_low i (omega arith);
-            states = λ g R h few. pop_state g R (inv.states g R h few);
+            slots_low = λ j h. subst (λ (n : ℕ). n < length cur) (ap (λ (l : List ℕ). at l j) e ∙ get_or_append_left below (i ∷ []) 0 j h) (inv.slots_low j (omega (arith, ap length e, length-append below (i ∷ []))));
+            states = λ g R h few. popped g R (inv.states g R h few);
           }
+        where
+          popped : (g : ℕ → ℕ) (R : List ℕ) → State g R arcs out stack key → State g R arcs' (out ++ i ∷ []) below key'
+          popped g R st = let q = turn None t g R st in go q.0 q.1 (pick g key q.0) q.2
+            where
+              go : (rest : List ℕ) (m : ℕ) (p : Pick) → Turn g R None rest m p → State g R arcs' (out ++ i ∷ []) below key'
+              go rest m nothing t =
+                  let s : reverse stack ≡ i ∷ reverse below = ap reverse e ∙ reverse_push below i in
+                  record {
+                    rest = rest;
+                    fuel = m;
+                    held = t.took.1;
+                    enough = omega (arith, t.fuel, ap length e, length-append below (i ∷ []));
+                    sum = omega (arith, t.sum, ap length e, length-append below (i ∷ []), length-append out (i ∷ []));
+                    goes = rw (reverse_push out i) (rw s at t.goes);
+                    at_key = is_key;
+                  }
+              go rest m (arc i R') t = let z : None ≡ Some i = t.took.0 in absurd cc
+
+    -- the slot below the stack's top
+    module _ (below : List ℕ) (i : ℕ) (e : stack ≡ below ++ i ∷ []) where
+      pub below_low : (x : ℕ) → slice_get below (length below - 1) ≡ Some x → x < length cur
+      below_low x s =
+          let l : length below - 1 < length below = slice_get_within below (length below - 1) x s in
+          let v : at stack (length below - 1) ≡ x = ap (λ (w : List ℕ). at w (length below - 1)) e ∙ get_or_append_left below (i ∷ []) 0 (length below - 1) l ∙ get_or_from_slice_get below (length below - 1) x 0 s in
+          subst (λ (n : ℕ). n < length cur) v (inv.slots_low (length below - 1) (omega (arith, ap length e, length-append below (i ∷ []))))
+
+      module _ (t : Took key arcs None arcs') (a : Ready cur start arcs₀) where
+        pub pop_on : (x : ℕ) → slice_get below (length below - 1) ≡ Some x → TrailInv arcs₀ arcs' (out ++ i ∷ []) below (at cur x)
+        pop_on x s = pop t below i (at cur x) e (a.keys x (below_low x s)) (sym (key_top (at cur) start below x s))
+
+        pub pop_last : slice_get below (length below - 1) ≡ None → TrailInv arcs₀ arcs' (out ++ i ∷ []) below start
+        pop_last s = pop t below i start e a.start_key (ap (λ (l : List ℕ). key_of (at cur) start (reverse l)) (sym (empty_is below s)))
 
     -- a slot for the key: it goes onto the stack
-    module _ (an-arc : at head key ≡ 255 → ⊥) (keys : (i : ℕ) → i < length cur → at cur i < 64) where
-      Pushed : (g : ℕ → ℕ) (R : List ℕ) → ℕ → Type 0
-      Pushed g R i = (i < length cur) × (sp + n + 1 ≤ length R) × State g R (set head key (at next i)) out (set stack sp i) (sp + 1) n (at cur i)
+    module _ (i : ℕ) (t : Took key arcs (Some i) arcs') where
+      record Pushed (g : ℕ → ℕ) (R : List ℕ) : Type 0 where
+        low : i < length cur
+        room : length stack + length out + 1 ≤ length R
+        state : State g R arcs' out (stack ++ i ∷ []) (at cur i)
 
-      push_state : (g : ℕ → ℕ) (R : List ℕ) → length R ≤ 20 → State g R head out stack sp n key → Pushed g R (at head key)
-      unfolding rev_take Pushed
-      push_state g R few st =
-          let q = turn g R st in
-          go q.0 q.1 (pick g key q.0) q.2
+      pushed : (g : ℕ → ℕ) (R : List ℕ) → State g R arcs out stack key → Pushed g R
+      pushed g R st = let q = turn (Some i) t g R st in go q.0 q.1 (pick g key q.0) q.2
         where
-          at_i : (rest : List ℕ) (m i : ℕ) (R' : List ℕ) → Turn g R rest m (arc i R') → Read (length cur) g key rest head next (arc i R') → Pushed g R (at head key)
-          at_i rest m i R' t (found e lt h) =
-              let picked : length rest ≡ suc (length R') = t.picks.2 in
-              let pushed : rev_take (sp + 1) (set stack sp i) ≡ i ∷ rev_take sp stack =
-              rev_take_push sp stack i (omega (arith, inv.room, inv.stack_length)) in
-              subst⁻¹
-              (Pushed g R)
-              e (
-                lt,
-                omega (arith, t.sum, picked),
-                record {
-                  rest = R';
-                  fuel = m;
-                  held = h;
-                  enough = omega (arith, t.fuel, picked);
-                  sum = omega (arith, t.sum, picked);
-                  goes = rw pushed t.goes;
-                  at_key = rw pushed refl;
-                },
-              )
+          go : (rest : List ℕ) (m : ℕ) (p : Pick) → Turn g R (Some i) rest m p → Pushed g R
+          go rest m nothing t = let z : Some i ≡ None = t.took.0 in absurd cc
+          go rest m (arc j R') t =
+              let y : Some i ≡ Some j = t.took.0 in
+              let x : i ≡ j = cc in
+              let s : reverse (stack ++ i ∷ []) ≡ j ∷ reverse stack = reverse_push stack i ∙ ap (λ (k : ℕ). k ∷ reverse stack) x in
+              record {
+                low = omega (arith, t.took.1);
+                room = omega (arith, t.sum, t.picks.2);
+                state =
+                    record {
+                      rest = R';
+                      fuel = m;
+                      held = t.took.2;
+                      enough = omega (arith, t.fuel, t.picks.2, length-append stack (i ∷ []));
+                      sum = omega (arith, t.sum, t.picks.2, length-append stack (i ∷ []));
+                      goes = rw s t.goes;
+                      at_key = rw s (ap (at cur) x);
+                    };
+              }
 
-          go : (rest : List ℕ) (m : ℕ) (p : Pick) → Turn g R rest m p → Pushed g R (at head key)
-          go rest m nothing t = absurd (an-arc (is_ended g rest t.reads))
-          go rest m (arc i R') t = at_i rest m i R' t t.reads
+      -- from one list that the table holds at the start
+      module _ (a : Ready cur start arcs₀) where
+        one : Pushed a.need a.slots
+        one = pushed a.need a.slots (inv.states a.need a.slots a.held a.few)
 
-      -- from one list R that the arrays hold at the start
-      module _ (g₁ : ℕ → ℕ) (R₁ : List ℕ) (h₁ : Chained (length cur) g₁ R₁ head₀ next) (few₁ : length R₁ ≤ 20) where
-        pub arc_low : at head key < length cur
-        unfolding Pushed
-        arc_low = (push_state g₁ R₁ few₁ (inv.states g₁ R₁ h₁ few₁)).0
+        pub arc_low : i < length cur
+        arc_low = one.low
 
-        pub arc_room : sp + n + 1 ≤ 20
-        unfolding Pushed
-        arc_room = omega (arith, (push_state g₁ R₁ few₁ (inv.states g₁ R₁ h₁ few₁)).1)
+        pub arc_room : length stack + length out + 1 ≤ 20
+        arc_room = omega (arith, one.room, a.few)
 
-        pub push : TrailInv head₀ (set head key (at next (at head key))) out (set stack sp (at head key)) (sp + 1) n (at cur (at head key))
-        unfolding Pushed
+        pub push : TrailInv arcs₀ arcs' out (stack ++ i ∷ []) (at cur i)
         push =
             record {
-              head_length = length-set head key (at next (at head key)) ∙ inv.head_length;
-              out_length = inv.out_length;
-              stack_length = length-set stack sp (at head key) ∙ inv.stack_length;
-              room = omega (arith, arc_room);
-              key_low = keys (at head key) arc_low;
-              slots_low = λ i h.
-                  elim (ℕ_discrete i sp) [
-                    | yes q ↦ subst⁻¹ (λ (z : ℕ). at (set stack sp (at head key)) z < length cur) q
-                        (rw (get_or-set_same stack sp (at head key) 0 (omega (arith, inv.room, inv.stack_length))) arc_low)
-                    | no q ↦ rw (get_or-set_other stack sp i (at head key) 0 q) (inv.slots_low i (omega arith))
+              room = omega (arith, arc_room, length-append stack (i ∷ []));
+              key_low = a.keys i arc_low;
+              slots_low = λ j h.
+                  elim (dec_lt j (length stack)) [
+                    | yes q ↦ rw (get_or_append_left stack (i ∷ []) 0 j q) (inv.slots_low j q)
+                    | no q ↦
+                        let e : j ≡ length stack = omega (arith, length-append stack (i ∷ [])) in
+                        rw (e, get_or-append_seam stack i [] 0) arc_low
                   ];
-              states = λ g R h few. (push_state g R few (inv.states g R h few)).2;
+              states = λ g R h few. (pushed g R (inv.states g R h few)).state;
             }
-
-  pub begin : (head out stack : List ℕ) → length head ≡ 64 → length out ≡ 21 → length stack ≡ 21 → start < 64 → TrailInv head head out stack 0 0 start
-  unfolding rev_take trail
-  begin head out stack lh lo ls low =
-      record {
-        head_length = lh;
-        out_length = lo;
-        stack_length = ls;
-        room = omega arith;
-        key_low = low;
-        slots_low = λ i h. absurd (omega arith);
-        states = λ g R h few.
-            record { rest = R; fuel = suc (2 * length R); held = h; enough = omega arith; sum = omega arith; goes = refl; at_key = refl };
-      }
-
-module _ (cur : List ℕ) (start : ℕ) where
-  -- the key under the stack's top
-  pub key_of_lem : (stack : List ℕ) (sp : ℕ) → 0 < sp → at cur (at stack (sp - 1)) ≡ key_of (at cur) start (rev_take sp stack)
-  unfolding rev_take
-  key_of_lem stack zero h = absurd (omega arith)
-  key_of_lem stack (suc s) h = ap (λ (z : ℕ). at cur (at stack z)) {x = suc s - 1} {y = s} (omega arith)
-
-  pub key_start : (stack : List ℕ) (sp : ℕ) → sp ≡ 0 → start ≡ key_of (at cur) start (rev_take sp stack)
-  unfolding rev_take
-  key_start stack sp e = rw e

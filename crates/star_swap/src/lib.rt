@@ -1,72 +1,95 @@
 // Star-swap: the call, its checks, and the trail over the lists of slots by key.
 #![tactic(auto)]
 
-ghost use Rattle.std.specs.Prelude.{◌≡◌, ◌+◌, ◌≤◌, ◌<◌, length, replicate, drop};
-ghost use Rattle.star_swap.specs.Chain.{Ready, Given};
+ghost use Rattle.std.specs.Prelude.{◌≡◌, true, ◌+◌, ◌++◌, ◌≤◌, ◌<◌, length, drop, replicate};
+ghost use Rattle.costs.specs.Refusal.{refusal_of};
+ghost use Rattle.std.specs.Option.{is_some};
+ghost use Rattle.star_swap.specs.Chain.{slot, no_arcs, Held, Took, Ready, Given};
+ghost use Rattle.star_swap.specs.Ended.{Ended};
+ghost use Rattle.star_swap.specs.StarCode.{Pair, LinkedAt};
 ghost use Rattle.star_swap.specs.StarLoop.{Appended};
-ghost use Rattle.star_swap.specs.Ended.{Ended, Swept};
-ghost use Rattle.star_swap.specs.StarCode.{Pair, LinkedAt, Emitted};
-ghost use Rattle.star_swap.specs.Star.{code};
-ghost use Rattle.star_swap.specs.Refusal.{same_counts, are_keys_same, unroutable, builder_refusal, swap_refusal, star_swapped};
+ghost use Rattle.star_swap.specs.Star.{star_swaps, code, codes};
+ghost use Rattle.star_swap.specs.Refusal.{same_counts, are_keys_same, unroutable, builder_refusal, swap_refusal, written_of, star_swapped};
 ghost use Rattle.star_swap.specs.Check.{Counts};
 
-use costs::Step;
+use arrayvec::ArrayVec;
+use costs::{Refusal, Step};
 
-const NO_ARC: u8 = 255;
-
-// The trail from `start`: its slots go to `out`, the last first, and leave the lists.
-fn trail(cur: &[u8], next: &[u8; 21], start: u8, head: &mut [u8; 64], out: &mut [u8; 21]) -> usize
-    requires { Ready cur.now start head.old next.now out.old }
-    ensures { Given cur.now start head.old next.now head.new out.new result }
-{
-    let mut stack: [u8; 21] = [0; 21];
-    let mut sp: usize = 0;
-    let mut n: usize = 0;
-    let mut key = start;
-    loop {
-        let k = key as usize;
-        let pos = head[k];
-        if pos == NO_ARC {
-            if sp == 0 {
-                break;
-            }
-            sp -= 1;
-            out[n] = stack[sp];
-            n += 1;
-            if sp == 0 {
-                key = start;
-            } else {
-                let below = stack[sp - 1] as usize;
-                key = cur[below];
-            }
-        } else {
-            let at = pos as usize;
-            head[k] = next[at];
-            stack[sp] = pos;
-            sp += 1;
-            key = cur[at];
-        }
-    }
-    n
+// The misplaced slots by the key that each needs, rising: the first of each key, and behind each slot the next of its key.
+#[derive(Drop)]
+struct Arcs {
+    head: [Option<u8>; 64],
+    next: [Option<u8>; 21],
 }
 
-// The misplaced slots, by the key that each needs, rising.
-fn link(cur: &[u8], goal: &[u8], head: &mut [u8; 64], next: &mut [u8; 21])
-    requires pair { Pair cur.now goal.now }
-    requires head_value { head.old ≡ replicate 64 255 }
-    requires next_len { length next.old ≡ 21 }
-    requires cur_nonzero { 0 < length cur.now }
-    ensures { LinkedAt cur.now goal.now 1 head.new next.new }
-{
-    let mut pos = cur.len();
-    while pos > 1 {
-        pos -= 1;
-        let need = goal[pos];
-        if cur[pos] != need {
-            let k = need as usize;
-            next[pos] = head[k];
-            head[k] = pos as u8;
+impl Arcs {
+    // The misplaced slots of two windows, from the last up each in front of its key's list.
+    fn link(&mut self, cur: &[u8], goal: &[u8])
+        requires pair { Pair cur.now goal.now × (0 < length cur.now) }
+        requires empty { self.old ≡ no_arcs }
+        ensures { LinkedAt cur.now goal.now 1 self.new }
+    {
+        for slot in (1..cur.len()).rev() {
+            let need = goal[slot] as usize;
+            if cur[slot] != goal[slot] {
+                self.next[slot] = self.head[need];
+                self.head[need] = Some(slot as u8);
+            }
         }
+    }
+
+    // The first slot that needs a key, which leaves the lists.
+    fn take(&mut self, key: u8) -> Option<u8>
+        requires { Held self.old × (key < 64) }
+        ensures { Took key self.old result self.new }
+    {
+        let slot = self.head[key as usize]?;
+        self.head[key as usize] = self.next[slot as usize];
+        Some(slot)
+    }
+
+    // The trail from a key: its slots leave the lists.
+    fn trail(&mut self, cur: &[u8], start: u8) -> ArrayVec<u8, 20>
+        requires { Ready cur.now start self.old }
+        ensures { Given cur.now start self.old self.new result.items }
+    {
+        let mut stack: ArrayVec<u8, 20> = ArrayVec::new();
+        let mut out: ArrayVec<u8, 20> = ArrayVec::new();
+        let mut key = start;
+        loop {
+            if let Some(slot) = self.take(key) {
+                stack.push(slot);
+                key = cur[slot as usize];
+            } else {
+                let Some(slot) = stack.pop() else {
+                    out.reverse();
+                    return out;
+                };
+                out.push(slot);
+                key = match stack.last() {
+                    Some(&below) => cur[below as usize],
+                    None => start,
+                };
+            }
+        }
+    }
+
+    // Whether no slot is left, as of most windows after the first trail. A fold: `any`, with a branch for each key, takes as long as all the rest.
+    fn is_empty(&self) -> bool
+        ensures { result ≡ true → Ended self.now }
+    {
+        !self
+            .head
+            .iter()
+            .fold(false, |any, slot| any | slot.is_some())
+    }
+
+    // Whether a slot needs the key.
+    fn has(&self, key: u8) -> bool
+        requires { key < 64 }
+        ensures { result ≡ is_some (slot self.now.head key) }
+    {
+        self.head[key as usize].is_some()
     }
 }
 
@@ -74,92 +97,83 @@ fn link(cur: &[u8], goal: &[u8], head: &mut [u8; 64], next: &mut [u8; 21])
 fn swap_code(d: u8) -> u16
     ensures { result ≡ code d }
 {
-    costs::code(Step::Swap(d))
+    u16::from(Step::Swap(d))
 }
 
-// Writes the first `m` items of `out` as swaps to `steps` from `start` on, the last first.
-fn emit(out: &[u8; 21], m: usize, start: usize, steps: &mut [u16]) -> usize
-    requires m_bound { m ≤ 20 }
-    requires m_in_bounds { start + m ≤ length steps.old }
-    ensures value { result ≡ start + m }
-    ensures emitted { Emitted steps.old start out.now m steps.new }
+// The slots as swaps, behind those so far.
+fn append(slots: &[u8], steps: &mut ArrayVec<u16, 128>)
+    requires { length steps.old.items + length slots.now ≤ 128 }
+    ensures { steps.new.items ≡ steps.old.items ++ codes slots.now }
 {
-    let mut i = start;
-    let mut j = m;
-    while j > 0 {
-        j -= 1;
-        let d = out[j];
-        steps[i] = swap_code(d);
-        i += 1;
+    for &slot in slots {
+        steps.push(swap_code(slot));
     }
-    i
 }
 
-// Whether some key has an arc left.
-fn any_arc(head: &[u8; 64]) -> bool
-    requires { length head.now ≡ 64 }
-    ensures { Swept result 64 head.now }
+// The swaps that turn `cur` into `goal`, behind the steps so far.
+pub fn route(cur: &[u8], goal: &[u8], steps: &mut ArrayVec<u16, 128>)
+    requires pair { Pair cur.now goal.now }
+    requires room { length steps.old.items ≤ 98 }
+    ensures { steps.new.items ≡ steps.old.items ++ codes (star_swaps cur.now goal.now) }
 {
-    let mut any = false;
-    let mut i: usize = 0;
-    while i < 64 {
-        any = costs::either(any, head[i] != NO_ARC);
-        i += 1;
+    let Some(&top) = cur.first() else {
+        return;
+    };
+    let mut arcs = Arcs {
+        head: [None; 64],
+        next: [None; 21],
+    };
+    arcs.link(cur, goal);
+    let first = arcs.trail(cur, top);
+    append(&first, steps);
+    if arcs.is_empty() {
+        return;
     }
-    any
+    for key in 0..64 {
+        if arcs.has(key) {
+            let circuit = arcs.trail(cur, key);
+            if let Some(&enter) = circuit.last() {
+                steps.push(swap_code(enter));
+                append(&circuit, steps);
+            }
+        }
+    }
 }
 
-// A key below which no key has an arc left.
-fn first_key(head: &[u8; 64]) -> u8
-    requires { length head.now ≡ 64 }
-    ensures { (result ≤ 64) × Ended result head.now }
-{
-    if any_arc(head) { 0 } else { 64 }
-}
-
-// The swaps that turn `cur` into `goal`, from the place `start` of `steps` on: the place behind the last.
+// The swaps that turn `cur` into `goal`, from the place `start` of `steps` on, in any list: the place behind the last.
 pub fn star(cur: &[u8], goal: &[u8], start: usize, steps: &mut [u16]) -> usize
     requires pair { Pair cur.now goal.now }
     requires start_in_bounds { start + 30 ≤ length steps.old }
     ensures { Appended cur.now goal.now steps.old start steps.new result }
 {
-    if cur.len() == 0 {
-        return start;
-    }
-    let mut head: [u8; 64] = [255; 64];
-    let mut next: [u8; 21] = [255; 21];
-    let mut out: [u8; 21] = [0; 21];
-    link(cur, goal, &mut head, &mut next);
-    let top = cur[0];
-    let first = trail(cur, &next, top, &mut head, &mut out);
-    let mut count = emit(&out, first, start, steps);
-    let mut key = first_key(&head);
-    while key < 64 {
-        let m = trail(cur, &next, key, &mut head, &mut out);
-        if m > 0 {
-            let enter = out[0];
-            steps[count] = swap_code(enter);
-            count = emit(&out, m, count + 1, steps);
-        }
-        key += 1;
-    }
-    count
+    let mut swaps: ArrayVec<u16, 128> = ArrayVec::new();
+    route(cur, goal, &mut swaps);
+    let end = start + swaps.len();
+    steps[start..end].copy_from_slice(&swaps);
+    end
 }
 
-// How often each key below 64 stands in the list.
+// How often each key below 64 stands in the list, into a table of zeros: the caller's, since a table that is handed back is copied while its bytes
+// are on their way to memory.
+pub fn count_into(w: &[u8], a: &mut [u8; 64])
+    requires { (length w.now ≤ 255) × (a.old ≡ replicate 64 0) }
+    ensures { Counts w.now a.new }
+{
+    for &key in w {
+        if key < 64 {
+            a[key as usize] += 1;
+        }
+    }
+}
+
+// The same in a table of its own.
+// heuristic's `count_list` asks for at most 21 keys below 64; this takes up to 255 of any.
 pub fn counts(w: &[u8]) -> [u8; 64]
     requires { length w.now ≤ 255 }
     ensures { Counts w.now result }
 {
-    let mut a: [u8; 64] = [0; 64];
-    let mut i: usize = 0;
-    while i < w.len() {
-        let k = w[i] as usize;
-        i += 1;
-        if k < 64 {
-            a[k] += 1;
-        }
-    }
+    let mut a = [0; 64];
+    count_into(w, &mut a);
     a
 }
 
@@ -168,15 +182,11 @@ fn same_counts(a: &[u8], b: &[u8]) -> bool
     requires { (length a.now ≤ 255) × (length b.now ≤ 255) }
     ensures { result ≡ same_counts 64 a.now b.now }
 {
-    let x = counts(a);
-    let y = counts(b);
-    let mut differ = false;
-    let mut k: usize = 0;
-    while k < 64 {
-        differ = costs::either(differ, x[k] != y[k]);
-        k += 1;
-    }
-    !differ
+    let mut x = [0; 64];
+    let mut y = [0; 64];
+    count_into(a, &mut x);
+    count_into(b, &mut y);
+    x == y
 }
 
 // Whether two windows of one length hold the same keys from a place on.
@@ -184,59 +194,56 @@ fn same_from(a: &[u8], b: &[u8], from: usize) -> bool
     requires { length a.now ≡ length b.now }
     ensures { result ≡ are_keys_same (drop from a.now) (drop from b.now) }
 {
-    let mut i = from;
-    while i < a.len() {
-        if a[i] != b[i] {
-            return false;
-        }
-        i += 1;
-    }
-    true
+    let from = from.min(a.len());
+    a[from..] == b[from..]
 }
 
 // Refusal 9: no swaps below `swap_max` turn the start into the goal.
+#[tactic(auto, unfolding(crate::specs::Refusal::unroutable))]
 pub fn not_routable(start: &[u8], goal: &[u8], swap_max: usize) -> bool
     requires { (length start.now ≤ 255) × (length goal.now ≤ 255) }
     ensures { result ≡ unroutable swap_max start.now goal.now }
 {
-    if start.len() != goal.len() {
-        return true;
-    }
-    let counted = same_counts(start, goal);
-    let placed = same_from(start, goal, swap_max);
-    costs::either(!counted, !placed)
+    start.len() != goal.len() || !same_counts(start, goal) || !same_from(start, goal, swap_max)
 }
 
-// The rows of the table that star-swap and delete-tail share, over the rows of higher numbers.
-pub fn builder_refusal(
+// The rows of the table that star-swap and delete-tail share: refusals 1 and 5 to 7.
+#[tactic(auto, unfolding(crate::specs::Refusal::builder_refusal))]
+pub fn check_shared(
     start: &[u8],
     goal: &[u8],
     swap_max: usize,
     places: usize,
-    higher: u32,
-) -> u32
-    ensures { result ≡ builder_refusal swap_max start.now goal.now places higher }
+) -> Result<(), Refusal>
+    ensures { refusal_of result ≡ builder_refusal swap_max start.now goal.now places 0 }
 {
-    let high = costs::either(costs::any_over(start, 63), costs::any_over(goal, 63));
-    let long = costs::either(21 < start.len(), 21 < goal.len());
-    let short = costs::row(7, places < 128, higher);
-    let length = costs::row(6, long, short);
-    let key = costs::row(5, high, length);
-    costs::row(1, 17 < swap_max, key)
+    if 17 < swap_max {
+        return Err(Refusal::Reach);
+    }
+    if costs::any_over(start, 63) || costs::any_over(goal, 63) {
+        return Err(Refusal::Key);
+    }
+    if 21 < start.len() || 21 < goal.len() {
+        return Err(Refusal::Length);
+    }
+    if places < 128 {
+        return Err(Refusal::ShortList);
+    }
+    Ok(())
 }
 
 // The refusals, the lowest number first. Row 9 counts keys in bytes, so the lengths are looked at before it.
-fn swap_refusal(start: &[u8], goal: &[u8], swap_max: usize, places: usize) -> u32
-    ensures { result ≡ swap_refusal swap_max start.now goal.now places }
+fn check(start: &[u8], goal: &[u8], swap_max: usize, places: usize) -> Result<(), Refusal>
+    ensures { refusal_of result ≡ swap_refusal swap_max start.now goal.now places }
 {
-    let n = builder_refusal(start, goal, swap_max, places, 0);
-    if n != 0 {
-        return n;
+    check_shared(start, goal, swap_max, places)?;
+    if not_routable(start, goal, swap_max) {
+        return Err(Refusal::Swaps);
     }
-    costs::row(9, not_routable(start, goal, swap_max), 0)
+    Ok(())
 }
 
-// What star-swap and delete-tail answer: the number of a refusal or 0, and the number of steps written.
+// What star-swap and delete-tail answer: the number of a refusal or 0, and the number of steps written. A number and no Result, since C gets it.
 #[repr(C)]
 #[derive(Clone, Copy)]
 pub struct Written {
@@ -244,17 +251,37 @@ pub struct Written {
     pub count: usize,
 }
 
+// Beside a refusal the count is zero.
+impl From<Result<usize, Refusal>> for Written {
+    ghost from_gives = { λ answer written. written ≡ written_of answer };
+
+    fn from(answer: Result<usize, Refusal>) -> Written {
+        match answer {
+            Ok(count) => Written { refusal: 0, count },
+            Err(refusal) => Written {
+                refusal: refusal.number(),
+                count: 0,
+            },
+        }
+    }
+}
+
+// As `star_swap`, or why it is refused.
+fn try_star_swap(
+    start: &[u8],
+    goal: &[u8],
+    swap_max: usize,
+    steps: &mut [u16],
+) -> Result<usize, Refusal>
+    ensures { (written_of result, steps.new) ≡ star_swapped swap_max start.now goal.now steps.old }
+{
+    check(start, goal, swap_max, steps.len())?;
+    Ok(star(start, goal, 0, steps))
+}
+
 // Star-swap: its swaps over the first places of the step list.
 pub fn star_swap(start: &[u8], goal: &[u8], swap_max: usize, steps: &mut [u16]) -> Written
     ensures { (result, steps.new) ≡ star_swapped swap_max start.now goal.now steps.old }
 {
-    let n = swap_refusal(start, goal, swap_max, steps.len());
-    if n != 0 {
-        return Written {
-            refusal: n,
-            count: 0,
-        };
-    }
-    let count = star(start, goal, 0, steps);
-    Written { refusal: 0, count }
+    Written::from(try_star_swap(start, goal, swap_max, steps))
 }

@@ -4,21 +4,13 @@
 ghost use Rattle.std.specs.Prelude.{◌≡◌, ◌≤◌};
 ghost use Rattle.planner.specs.Steady.{Demand3};
 
-use planner::Answer;
+use planner::{Allowances, Answer};
 
 // The two answers.
-#[derive(Clone, Copy)]
+#[derive(Clone, Copy, PartialEq, Eq)]
 pub struct Twice {
     pub first: Answer,
     pub second: Answer,
-}
-
-// The allowances, in document 01's order.
-#[derive(Clone, Copy)]
-pub struct Allowed {
-    pub max_expansions: usize,
-    pub states_without: usize,
-    pub states_with: usize,
 }
 
 // Plans one question, above so many items, under two sets of allowances, each time with step and work lists of its own, of any lengths and
@@ -33,12 +25,12 @@ pub fn plan_twice(
     beneath: usize,
     kinds: &[u8],
     prices: &[u32],
-    low: Allowed,
+    low: Allowances,
     low_steps: &mut [u16],
     low_nodes: &mut [u64],
     low_heads: &mut [u64],
     low_list: &mut [u64],
-    high: Allowed,
+    high: Allowances,
     high_steps: &mut [u16],
     high_nodes: &mut [u64],
     high_heads: &mut [u64],

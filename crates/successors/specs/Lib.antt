@@ -2,9 +2,10 @@ pub mod Parts
 pub mod Successors
 pub mod Limits
 pub mod Worked
-pub mod Tests
+pub mod Firsts
+pub mod Keys
 pub mod Suffix
 pub mod Places
-pub mod Kept
 pub mod Listed
 pub mod Whole
+pub mod View

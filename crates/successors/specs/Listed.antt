@@ -1,11 +1,11 @@
--- The steps listed so far, by their codes, and the laws that the loops go by.
-use Rattle.std.specs.Prelude.{ℕ, zero, suc, ◌+◌, ◌-◌, ◌≤◌, ◌<◌, ◌≡◌, refl, Bool, true, false, List, [], ◌∷◌, ◌++◌, map, length, get_or, set, take}
+-- The steps listed so far, and the laws that the loops go by.
+use Rattle.std.specs.Prelude.{ℕ, zero, suc, ◌+◌, ◌-◌, ◌≤◌, ◌<◌, ◌≡◌, refl, true, List, [], ◌∷◌, ◌++◌, Option, length, get_or, set, take}
 use Rattle.std.proofs.Common.{ap, sym, ◌∙◌, append_assoc, append-nil, arith, add-one, length-append, length-set, take-suc-set, take-suc}
 use Rattle.std.proofs.Math.Seq.{take-length}
-use Rattle.costs.specs.Step.{code_of}
+use Rattle.std.specs.Option.{option_to_list}
 use Rattle.costs.specs.declared.Step.{Step}
 use Rattle.replay.specs.Machine.{room}
-use Rattle.successors.specs.Parts.{offer, up_to, each, map_append, up_to_turn}
+use Rattle.successors.specs.Parts.{up_to, each, up_to_turn}
 use Rattle.successors.specs.Successors.{grown}
 
 -- ---- lists made number by number
@@ -45,29 +45,29 @@ up_to_room f now base d limit e l h =
     let k = ap (λ n. length (up_to f n)) q in
     omega (arith, length-append (up_to f d) (f d))
 
--- ---- the codes in a lent list
+-- ---- the steps in a lent list
 
--- the first n numbers of a list
+-- the first n steps of a list
 pub record Steps : Type 0 where
-  pub codes : List ℕ
+  pub list : List Step
   pub n : ℕ
 
-abbrev pub steps : List ℕ → ℕ → Steps
-steps codes n = record { codes = codes; n = n }
+abbrev pub steps : List Step → ℕ → Steps
+steps list n = record { list = list; n = n }
 
-unfoldable pub listed : Steps → List ℕ
-listed s = take s.n s.codes
+unfoldable pub listed : Steps → List Step
+listed s = take s.n s.list
 
--- a list with places for 50 codes has room for the steps ss from place n on
-pub record Roomy (codes : List ℕ) (n : ℕ) (ss : List Step) : Type 0 where
-  pub places : 50 ≤ length codes
+-- a list with places for 50 steps has room for the steps ss from place n on
+pub record Roomy (list : List Step) (n : ℕ) (ss : List Step) : Type 0 where
+  pub places : 50 ≤ length list
   pub few : n + length ss ≤ 50
 
 -- r is out with the steps ss after those of out
 pub record Added (out r : Steps) (ss : List Step) : Type 0 where
-  pub list : listed r ≡ listed out ++ map code_of ss
+  pub list : listed r ≡ listed out ++ ss
   pub count : r.n ≡ out.n + length ss
-  pub size : length r.codes ≡ length out.codes
+  pub size : length r.list ≡ length out.list
 
 pub added_none : (out : Steps) → Added out out []
 added_none out = record { list = sym (append-nil (listed out)); count = omega arith; size = refl }
@@ -75,67 +75,40 @@ added_none out = record { list = sym (append-nil (listed out)); count = omega ar
 pub added_then : (a b c : Steps) (xs ys : List Step) → Added a b xs → Added b c ys → Added a c (xs ++ ys)
 added_then a b c xs ys h k =
     record {
-      list = rw (map_append code_of xs ys, k.list, h.list, append_assoc (listed a) (map code_of xs) (map code_of ys));
+      list = rw (k.list, h.list, append_assoc (listed a) xs ys);
       count = omega (arith, h.count, k.count, length-append xs ys);
       size = k.size ∙ h.size;
     }
 
-listed_add : (codes : List ℕ) (n c : ℕ) → n < length codes → take (n + 1) (set codes n c) ≡ take n codes ++ (c ∷ [])
-listed_add codes n c h = rw (add-one n, take-suc-set codes n c h)
-
-pub offer_yes {ℓ} : {A : Type ℓ} (b : Bool) (a : A) → b ≡ true → offer b a ≡ a ∷ []
-unfolding offer
-offer_yes b a e = rw e
-
-pub offer_no {ℓ} : {A : Type ℓ} (b : Bool) (a : A) → b ≡ false → offer b a ≡ []
-unfolding offer
-offer_no b a e = rw e
-
--- a step offered has its place
-pub offer_room : (codes : List ℕ) (n : ℕ) (b : Bool) (s : Step) → b ≡ true → Roomy codes n (offer b s) → n < length codes
-unfolding offer
-offer_room codes n b s e h = let g = rw e at h.few in omega (arith, h.places)
-
-pub offer_count : (codes : List ℕ) (n : ℕ) (b : Bool) (s : Step) → b ≡ true → Roomy codes n (offer b s) → n < 50
-unfolding offer
-offer_count codes n b s e h = let g = rw e at h.few in omega arith
-
-pub added_one : (codes after : List ℕ) (n c : ℕ) (b : Bool) (s : Step) → b ≡ true → Roomy codes n (offer b s) → c ≡ code_of s → after ≡ set codes n c → Added (steps codes n) (steps after (n + 1)) (offer b s)
+pub added_one : (list : List Step) (n : ℕ) (s : Step) → Roomy list n (s ∷ []) → Added (steps list n) (steps (set list n s) (n + 1)) (s ∷ [])
 unfolding listed
-added_one codes after n c b s t h e f =
-    rw (offer_yes b s t)
-    (record {
-      list = rw (f, ← e) (listed_add codes n c (offer_room codes n b s t h));
+added_one list n s h =
+    let l : n < length list = omega (arith, h.places, h.few) in
+    record {
+      list = rw (add-one n, take-suc-set list n s l);
       count = refl;
-      size = rw (f) (length-set codes n c);
-    })
-
-pub added_skip : (codes : List ℕ) (n : ℕ) (b : Bool) (s : Step) → b ≡ false → Added (steps codes n) (steps codes n) (offer b s)
-added_skip codes n b s t = rw (offer_no b s t) (added_none (steps codes n))
+      size = length-set list n s;
+    }
 
 -- ---- a loop that adds what f gives, number by number
+
+-- each call below the limit may be made, and gives what f does
+abbrev pub Gives : (pre : ℕ → Type 0) (post : ℕ → Option Step → Type 0) (limit : ℕ) (f : ℕ → List Step) → Type 0
+Gives pre post limit f = (i : ℕ) → i < limit → pre i × ((r : Option Step) → post i r → option_to_list r ≡ f i)
 
 pub added_start : (out : Steps) (f : ℕ → List Step) → Added out out (up_to f 0)
 unfolding up_to
 added_start out f = added_none out
 
-pub added_end : (a b : Steps) (f : ℕ → List Step) (n limit : ℕ) → n ≤ limit → limit ≤ n → Added a b (up_to f n) → Added a b (up_to f limit)
-added_end a b f n limit l m h = let e : limit ≡ n = omega arith in rw e h
+pub loop_added : (a b c : Steps) (f : ℕ → List Step) (n : ℕ) → Added a b (up_to f n) → Added b c (f n) → Added a c (up_to f (n + 1))
+loop_added a b c f n h k = rw (up_to_turn f n) (added_then a b c (up_to f n) (f n) h k)
 
-pub added_each : (a b : Steps) (f : ℕ → List Step) (ks : List ℕ) (n : ℕ) → n ≤ length ks → length ks ≤ n → Added a b (up_to (λ i. f (get_or ks i 0)) n) → Added a b (each f ks)
-added_each a b f ks n l m h = rw (← each_up_to f ks) (added_end a b (λ i. f (get_or ks i 0)) n (length ks) l m h)
+-- the room for the next step: list and at as the loop found them, now and n as they are
+pub loop_room : (list now : List Step) (at n : ℕ) (f : ℕ → List Step) (d limit : ℕ) → Added (steps list at) (steps now n) (up_to f d) → d < limit → Roomy list at (up_to f limit) → Roomy now n (f d)
+loop_room list now at n f d limit a l h =
+    record { places = omega (arith, a.size, h.places); few = up_to_room f n at d limit a.count l h.few }
 
-pub loop_added : (a b c : Steps) (f : ℕ → List Step) (n : ℕ) (r t : Bool) (s : Step) → r ≡ t → f n ≡ offer t s → Added a b (up_to f n) → Added b c (offer r s) → Added a c (up_to f (n + 1))
-loop_added a b c f n r t s e g h k =
-    let k' : Added b c (f n) = rw (g, ← e) k in
-    rw (up_to_turn f n) (added_then a b c (up_to f n) (f n) h k')
-
--- the room for the next step: codes and at as the loop found them, now and n as they are
-pub loop_room : (codes now : List ℕ) (at n : ℕ) (f : ℕ → List Step) (d limit : ℕ) (r t : Bool) (s : Step) → r ≡ t → f d ≡ offer t s → Added (steps codes at) (steps now n) (up_to f d) → d < limit → Roomy codes at (up_to f limit) → Roomy now n (offer r s)
-loop_room codes now at n f d limit r t s e g a l h =
-    record { places = omega (arith, a.size, h.places); few = rw (e, ← g) (up_to_room f n at d limit a.count l h.few) }
-
-pub each_roomy : (codes : List ℕ) (at : ℕ) (f : ℕ → List Step) (ks : List ℕ) → Roomy codes at (each f ks) → Roomy codes at (up_to (λ i. f (get_or ks i 0)) (length ks))
+pub each_roomy : (codes : List Step) (at : ℕ) (f : ℕ → List Step) (ks : List ℕ) → Roomy codes at (each f ks) → Roomy codes at (up_to (λ i. f (get_or ks i 0)) (length ks))
 each_roomy codes at f ks h = rw (each_up_to f ks) h
 
 -- ---- the parts that grow the window
@@ -143,27 +116,21 @@ each_roomy codes at f ks h = rw (each_up_to f ks) h
 grown_yes : (max_len n : ℕ) (ss : List Step) → room max_len n ≡ true → grown max_len n ss ≡ ss
 grown_yes max_len n ss t = rw t
 
-grown_no : (max_len n : ℕ) (ss : List Step) → room max_len n ≡ false → grown max_len n ss ≡ []
-grown_no max_len n ss t = rw t
-
-pub room_grown : (codes : List ℕ) (at max_len n : ℕ) (ss : List Step) → room max_len n ≡ true → Roomy codes at (grown max_len n ss) → Roomy codes at ss
+pub room_grown : (codes : List Step) (at max_len n : ℕ) (ss : List Step) → room max_len n ≡ true → Roomy codes at (grown max_len n ss) → Roomy codes at ss
 room_grown codes at max_len n ss l h = rw (grown_yes max_len n ss l) at h
 
 pub added_grown : (a b : Steps) (max_len n : ℕ) (ss : List Step) → room max_len n ≡ true → Added a b ss → Added a b (grown max_len n ss)
 added_grown a b max_len n ss l h = rw (grown_yes max_len n ss l) h
 
-pub added_full : (a : Steps) (max_len n : ℕ) (ss : List Step) → room max_len n ≡ false → Added a a (grown max_len n ss)
-added_full a max_len n ss l = rw (grown_no max_len n ss l) (added_none a)
-
 -- room for the first part, the second and the third of three
-module _ (codes : List ℕ) (at : ℕ) (xs ys zs : List Step) (h : Roomy codes at (xs ++ (ys ++ zs))) where
+module _ (codes : List Step) (at : ℕ) (xs ys zs : List Step) (h : Roomy codes at (xs ++ (ys ++ zs))) where
   pub room_first : Roomy codes at xs
   room_first = record { places = h.places; few = omega (arith, h.few, length-append xs (ys ++ zs)) }
 
-  pub room_second : (a : List ℕ) (n : ℕ) → Added (steps codes at) (steps a n) xs → Roomy a n ys
+  pub room_second : (a : List Step) (n : ℕ) → Added (steps codes at) (steps a n) xs → Roomy a n ys
   room_second a n k = record { places = omega (arith, h.places, k.size); few = omega (arith, h.few, k.count, length-append xs (ys ++ zs), length-append ys zs) }
 
-  pub room_third : (a b : List ℕ) (n m : ℕ) → Added (steps codes at) (steps a n) xs → Added (steps a n) (steps b m) ys → Roomy b m zs
+  pub room_third : (a b : List Step) (n m : ℕ) → Added (steps codes at) (steps a n) xs → Added (steps a n) (steps b m) ys → Roomy b m zs
   room_third a b n m k l = record { places = omega (arith, h.places, k.size, l.size); few = omega (arith, h.few, k.count, l.count, length-append xs (ys ++ zs), length-append ys zs) }
 
 pub added_three : (o a b c : Steps) (xs ys zs : List Step) → Added o a xs → Added a b ys → Added b c zs → Added o c (xs ++ (ys ++ zs))

@@ -1,13 +1,12 @@
 -- The successors of a window, in their order (document 01, "One turn of the search": "Successors in order", "Skipped").
 use Rattle.std.specs.Prelude.{ℕ, ◌-◌, min, Bool, ◌&&◌, not, List, [], ◌∷◌, ◌++◌, reverse, suc, length, get_or, take, eqb, ltb, leb}
-use Rattle.std.proofs.Math.Option.{Option, none, some}
+use Rattle.std.specs.Prelude.{Option, None, Some}
 use Rattle.costs.specs.Choice.{◌if◌otherwise◌}
 use Rattle.costs.specs.Cost.{no_more}
 use Rattle.costs.specs.Price.{price_of}
 use Rattle.costs.specs.declared.Cost.{Cost}
 use Rattle.costs.specs.declared.Step.{Step}
 use Rattle.costs.specs.declared.Step.TheVariants.{Pop, Dup, Swap, PushImm, LoadVal}
-use Rattle.costs.specs.declared.Decoded.TheVariants.{Known}
 use Rattle.replay.specs.Machine.{Rules, room}
 use Rattle.successors.specs.Parts.{offer, up_to, each, some_below, has}
 
@@ -26,8 +25,8 @@ depth_of (PushImm k) = 0
 depth_of (LoadVal k) = 0
 
 abbrev pub last_depth : Option Step → ℕ
-last_depth none = 0
-last_depth (some s) = depth_of s
+last_depth None = 0
+last_depth (Some s) = depth_of s
 
 -- how long the two lists are the same from their heads on
 unfoldable pub common : List ℕ → List ℕ → ℕ
@@ -54,7 +53,7 @@ unfoldable pub kind_is : List ℕ → ℕ → ℕ → Bool
 kind_is kinds n k = eqb (get_or kinds k 0) n
 
 unfoldable pub price_by : List ℕ → Step → Cost
-price_by prices s = price_of prices (Known s)
+price_by prices s = price_of prices (Some s)
 
 -- Pop
 abbrev pub pops : List ℕ → List Step

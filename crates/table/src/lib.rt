@@ -1,64 +1,64 @@
-// Makes the table of a question: the kinds, the counts of the goal's keys, the goal, and the goal's keys each once.
+// What the search of a question rests on beside its lists.
 #![tactic(auto)]
 
-ghost use Rattle.std.specs.Prelude.{◌≡◌, ℕ, ◌+◌, ◌-◌, ◌<◌, ◌≤◌, min, length, take};
-ghost use Rattle.successors.specs.Kept.{kept};
-ghost use Rattle.table.specs.Table.{Put, Accepted, Prepared};
+use arrayvec::ArrayVec;
+use heuristic::Weights;
+use replay::{Rules, SearchCfg};
+use search::Question;
+use successors::Asked;
 
-use replay::SearchCfg;
-use search::Setup;
-use successors::Distinct;
+// How often the goal has each key, the goal's keys each once, and the least gas of a Dup.
+#[derive(Drop)]
+pub struct Table {
+    pub want: [u8; 64],
+    pub keys: ArrayVec<u8, 21>,
+    pub dup: u32,
+}
 
-// Writes the first n bytes of a list over a table, from a place on.
-fn put(table: &mut [u8], at: usize, from: &[u8], n: usize)
-    requires n_in_bounds { at + n ≤ length table.old }
-    requires n_in_bounds_2 { n ≤ length from.now }
-    ensures { Put table.old table.new at n (take n from.now) }
-{
-    let mut i: usize = 0;
-    while i < n {
-        table[at + i] = from[i];
-        i += 1;
+impl Table {
+    ghost use Rattle.std.specs.Prelude.{◌≡◌, List, ℕ};
+    ghost use Rattle.successors.specs.Whole.{asked};
+    ghost use Rattle.search.specs.View.{posed};
+    ghost use Rattle.table.specs.Table.{Accepted, Prepared};
+
+    // The table of an accepted question.
+    pub fn new(goal: &[u8], prices: &[u32], cfg: SearchCfg) -> Table
+        requires { (kinds : List ℕ) × Accepted cfg kinds prices.now goal.now }
+        ensures { Prepared cfg prices.now goal.now result }
+    {
+        let mut want = [0; 64];
+        heuristic::count_list(goal, &mut want);
+        Table {
+            want,
+            keys: successors::distinct_keys(goal),
+            dup: heuristic::least_dup(prices, cfg.dup_max),
+        }
     }
-}
 
-fn at_most_21(n: usize) -> usize
-    ensures { result ≡ min n 21 }
-{
-    if n < 21 { n } else { 21 }
-}
-
-// Writes the keys over a table, from a place on; how many.
-fn put_keys(table: &mut [u8], at: usize, distinct: Distinct) -> usize
-    requires { at + 21 ≤ length table.old }
-    ensures put { Put table.old table.new at result (kept distinct) }
-    ensures upper_bound { result ≤ 21 }
-{
-    let keys = distinct.keys;
-    let n = at_most_21(distinct.n);
-    put(table, at, &keys, n);
-    n
-}
-
-// The table of an accepted question.
-pub fn prepare(table: &mut [u8], goal: &[u8], kinds: &[u8], prices: &[u32], cfg: SearchCfg) -> Setup
-    requires table_len { length table.old ≡ 170 }
-    requires accepted { Accepted cfg kinds.now prices.now goal.now }
-    ensures { Prepared cfg kinds.now prices.now goal.now table.new result }
-{
-    let mut want = [0u8; 64];
-    heuristic::count_list(goal, &mut want);
-    let distinct = successors::distinct_keys(goal);
-    let dup = heuristic::least_dup(prices, cfg.dup_max);
-    let g = goal.len();
-    put(table, 0, kinds, 64);
-    put(table, 64, &want, 64);
-    put(table, 128, goal, g);
-    let k = put_keys(table, 128 + g, distinct);
-    Setup {
-        cfg: cfg,
-        goal: g,
-        keys: k,
-        dup: dup,
+    // The question of those lists.
+    pub fn question<'a>(
+        &'a self,
+        goal: &'a [u8],
+        rules: Rules<'a>,
+        prices: &'a [u32],
+    ) -> Question<'a>
+        requires accepted { Accepted rules.cfg rules.kinds.now prices.now goal.now }
+        requires prepared { Prepared rules.cfg prices.now goal.now self.now }
+        ensures { posed result ≡ asked rules.entry.cfg rules.entry.kinds.now prices.now goal.now }
+    {
+        Question {
+            asked: Asked {
+                cfg: rules.cfg,
+                kinds: rules.kinds,
+                prices,
+                goal,
+                keys: self.keys.as_slice(),
+            },
+            weights: Weights {
+                want: &self.want,
+                dup: self.dup,
+                prices,
+            },
+        }
     }
 }

@@ -1,6 +1,25 @@
 -- A list of answers, as docs/vectors-format.md describes it: all numbers are little endian, and what lies past an end reads as 0.
 use Rattle.std.specs.Prelude.{◌≡◌, ℕ, zero, suc, ◌+◌, ◌*◌, ◌%◌, ◌<◌, ◌≤◌, Bool, List, [], ◌∷◌, length, take, drop, ◌==◌, nat_eq, nat_lt, slice_index, slice_index_or}
+use Rattle.vectors.specs.declared.file.Tag.{Tag}
+use Rattle.vectors.specs.declared.file.Tag.TheVariants.{Start, Goal, Limits, Tables, Passed, Lent, Ceiling, Asked, Answer, Plan, Window, Popped, Places, Beneath}
 use Rattle.costs.specs.Choice.{◌if◌otherwise◌}
+
+-- The number of a field's tag.
+abbrev pub tag_of : Tag → ℕ
+tag_of Start = 1
+tag_of Goal = 2
+tag_of Limits = 3
+tag_of Tables = 4
+tag_of Passed = 5
+tag_of Lent = 6
+tag_of Ceiling = 7
+tag_of Asked = 8
+tag_of Answer = 9
+tag_of Plan = 10
+tag_of Window = 11
+tag_of Popped = 12
+tag_of Places = 13
+tag_of Beneath = 14
 
 -- The number of four bytes at a place.
 abbrev pub number_at : List ℕ → ℕ → ℕ
@@ -108,5 +127,5 @@ pub record Reading (size n at records wrong : ℕ) : Type 0 where
   pub differ : wrong ≤ records
 
 -- A list has so many first entries, and they are so many. The second part follows from the first, and spares a caller's `&xs[..n]` a proof.
-abbrev pub IsPrefixLen : ℕ → List ℕ → Type 0
+abbrev pub IsPrefixLen : {A : Type 0} → ℕ → List A → Type 0
 IsPrefixLen n xs = (n ≤ length xs) × (n ≡ length (take n xs))

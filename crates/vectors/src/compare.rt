@@ -4,7 +4,7 @@ ghost use Rattle.vectors.specs.File.{wanted_step, wanted_key, AsFields, AsSteps,
 
 use crate::file;
 use crate::file::{byte, code, count};
-use crate::rooms::pattern;
+use crate::rooms::{NO_KEY, pattern};
 use planner::Answer;
 
 // Whether the refusal and every field that the record has are answered. More fields than the call has are refused.
@@ -12,17 +12,15 @@ pub fn same_fields(answers: &[u8], got: &[usize]) -> bool
     requires { length got.now ≤ 64 }
     ensures { result ≡ true → AsFields answers.now got.now }
 {
-    if 4 * got.len() < answers.len() {
-        return false;
-    }
-    let mut i: usize = 0;
-    while 4 * i < answers.len() {
-        if got[i] != count(answers, 4 * i) {
+    for (i, &number) in got.iter().enumerate() {
+        if answers.len() <= 4 * i {
+            return true;
+        }
+        if number != count(answers, 4 * i) {
             return false;
         }
-        i += 1;
     }
-    true
+    answers.len() <= 4 * got.len()
 }
 
 // What a step list must hold at a place.
@@ -38,18 +36,13 @@ pub fn same_steps(codes: &[u8], steps: &[u16]) -> bool
     ensures { result ≡ true → AsSteps codes.now (length codes.now / 2) steps.now }
 {
     let n = codes.len() / 2;
-    if file::STEPS < n {
+    if file::STEPS < n || steps.len() < n {
         return false;
     }
-    if steps.len() < n {
-        return false;
-    }
-    let mut i: usize = 0;
-    while i < steps.len() {
-        if steps[i] != wanted_step(codes, n, i) {
+    for (i, &step) in steps.iter().enumerate() {
+        if step != wanted_step(codes, n, i) {
             return false;
         }
-        i += 1;
     }
     true
 }
@@ -58,7 +51,11 @@ pub fn same_steps(codes: &[u8], steps: &[u16]) -> bool
 fn wanted_key(keys: &[u8], i: usize) -> u8
     ensures { result ≡ wanted_key keys.now i }
 {
-    if i < keys.len() { byte(keys, i) } else { 201 }
+    if i < keys.len() {
+        byte(keys, i)
+    } else {
+        NO_KEY
+    }
 }
 
 // Whether a list holds the keys, and the rest is untouched.
@@ -68,12 +65,10 @@ pub fn same_keys(keys: &[u8], list: &[u8]) -> bool
     if list.len() < keys.len() {
         return false;
     }
-    let mut i: usize = 0;
-    while i < list.len() {
-        if list[i] != wanted_key(keys, i) {
+    for (i, &key) in list.iter().enumerate() {
+        if key != wanted_key(keys, i) {
             return false;
         }
-        i += 1;
     }
     true
 }
@@ -101,9 +96,9 @@ pub fn same_answer(answers: &[u8], a: Answer) -> bool
 }
 
 // A builder answers a refusal and a step count.
+// The refusal is a number, as C gets it.
 pub fn same_count(answers: &[u8], refusal: u32, n: usize) -> bool
     ensures { result ≡ true → AsFields answers.now (refusal ∷ n ∷ []) }
 {
-    let got = [refusal as usize, n];
-    same_fields(answers, &got)
+    same_fields(answers, &[refusal as usize, n])
 }

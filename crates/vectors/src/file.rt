@@ -1,63 +1,108 @@
 // Reading a list of answers. Past its end a list reads as zeros, so that no place is out of range and a number that a record lacks is 0.
-ghost use Rattle.std.specs.Prelude.{◌≡◌, ◌+◌, ◌-◌, ◌*◌, ◌<◌, ◌≤◌, true, length, take, drop, slice_index};
-ghost use Rattle.vectors.specs.File.{number_at, short_at, code_at, entries_size, place_of, field_of, has_field, passed_at, places_of, width_of, FieldKnown, AllKnown};
+ghost use Rattle.std.specs.Prelude.{◌≡◌, ◌+◌, ◌-◌, ◌*◌, ◌<◌, ◌≤◌, true, IfErr, IfSome, OnOk, length, take, drop, slice_index};
+ghost use Rattle.vectors.specs.File.{tag_of, number_at, short_at, code_at, entries_size, place_of, field_of, has_field, passed_at, places_of, width_of, FieldKnown, AllKnown};
 
 // The most work list entries and the longest step list or result list that a record may lend.
 pub const ENTRIES: usize = 20050;
 
 pub const STEPS: usize = 9400;
 
-// The tags of a record's fields.
-pub const START: u8 = 1;
+// The numbers of so many nodes and open entries, and the longest file.
+pub const NODES: usize = 8 * ENTRIES;
 
-pub const GOAL: u8 = 2;
+pub const OPEN: usize = 4 * ENTRIES;
 
-pub const LIMITS: u8 = 3;
+pub const FILE: usize = 400000;
 
-pub const TABLES: u8 = 4;
-
-pub const PASSED: u8 = 5;
-
-pub const LENT: u8 = 6;
-
-pub const CEILING: u8 = 7;
-
-pub const ASKED: u8 = 8;
-
-pub const ANSWER: u8 = 9;
-
-pub const PLAN: u8 = 10;
-
-pub const WINDOW: u8 = 11;
-
-pub const POPPED: u8 = 12;
-
-pub const PLACES: u8 = 13;
-
-pub const BENEATH: u8 = 14;
-
-fn wide(b: u8) -> u32
-    ensures { result ≡ b }
-{
-    b as u32
+// The fields of a record.
+#[derive(Clone, Copy, PartialEq, Eq)]
+pub enum Tag {
+    Start,
+    Goal,
+    Limits,
+    Tables,
+    Passed,
+    Lent,
+    Ceiling,
+    Asked,
+    Answer,
+    Plan,
+    Window,
+    Popped,
+    Places,
+    Beneath,
 }
 
-fn middle(b: u8) -> u16
-    ensures { result ≡ b }
-{
-    b as u16
+// The number of a tag: 1 to 14.
+impl From<Tag> for u8 {
+    ghost from_gives = { λ tag number. number ≡ tag_of tag };
+
+    fn from(tag: Tag) -> u8 {
+        match tag {
+            Tag::Start => 1,
+            Tag::Goal => 2,
+            Tag::Limits => 3,
+            Tag::Tables => 4,
+            Tag::Passed => 5,
+            Tag::Lent => 6,
+            Tag::Ceiling => 7,
+            Tag::Asked => 8,
+            Tag::Answer => 9,
+            Tag::Plan => 10,
+            Tag::Window => 11,
+            Tag::Popped => 12,
+            Tag::Places => 13,
+            Tag::Beneath => 14,
+        }
+    }
 }
 
-fn size(b: u8) -> usize
-    ensures { (result ≡ b) × (result < 256) }
-{
-    b as usize
+// The call that a record asks.
+#[derive(Clone, Copy, PartialEq, Eq)]
+pub enum Call {
+    Plan,
+    Replay,
+    Mark,
+    Pack,
+    StarSwap,
+    DeleteTail,
+    Rewind,
+}
+
+// A number that stands for no call.
+#[derive(Clone, Copy, PartialEq, Eq)]
+pub struct UnknownCall(pub usize);
+
+impl TryFrom<usize> for Call {
+    type Error = UnknownCall;
+
+    ghost try_from_gives = { λ number call. IfErr call (λ e. e.0 ≡ number) };
+
+    fn try_from(number: usize) -> Result<Call, UnknownCall> {
+        match number {
+            0 => Ok(Call::Plan),
+            1 => Ok(Call::Replay),
+            2 => Ok(Call::Mark),
+            3 => Ok(Call::Pack),
+            4 => Ok(Call::StarSwap),
+            5 => Ok(Call::DeleteTail),
+            6 => Ok(Call::Rewind),
+            _ => Err(UnknownCall(number)),
+        }
+    }
+}
+
+// Why the fields of a record cannot be read: one is not known or out of order, by its tag, or they do not fill the record.
+#[derive(Clone, Copy, PartialEq, Eq)]
+pub enum Strange {
+    Field(u8),
+    Length,
 }
 
 pub fn byte(s: &[u8], at: usize) -> u8
     ensures { result ≡ slice_index s.now at }
 {
-    if at < s.len() { s[at] } else { 0 }
+    s.get(at).copied().unwrap_or(0)
 }
 
 // The number of four bytes at a place.
@@ -65,10 +110,10 @@ pub fn number(s: &[u8], at: usize) -> u32
     requires { at < 1048576 }
     ensures { result ≡ number_at s.now at }
 {
-    let a = wide(byte(s, at));
-    let b = wide(byte(s, at + 1));
-    let c = wide(byte(s, at + 2));
-    let d = wide(byte(s, at + 3));
+    let a = u32::from(byte(s, at));
+    let b = u32::from(byte(s, at + 1));
+    let c = u32::from(byte(s, at + 2));
+    let d = u32::from(byte(s, at + 3));
     a + 256 * b + 65536 * c + 16777216 * d
 }
 
@@ -85,8 +130,8 @@ pub fn short(s: &[u8], at: usize) -> usize
     requires { at < 4398046511104 }
     ensures { (result ≡ short_at s.now at) × (result < 65536) }
 {
-    let a = size(byte(s, at));
-    let b = size(byte(s, at + 1));
+    let a = usize::from(byte(s, at));
+    let b = usize::from(byte(s, at + 1));
     a + 256 * b
 }
 
@@ -95,8 +140,8 @@ pub fn code(codes: &[u8], i: usize) -> u16
     requires { i < 65536 }
     ensures { result ≡ code_at codes.now i }
 {
-    let a = middle(byte(codes, 2 * i));
-    let b = middle(byte(codes, 2 * i + 1));
+    let a = u16::from(byte(codes, 2 * i));
+    let b = u16::from(byte(codes, 2 * i + 1));
     a + 256 * b
 }
 
@@ -104,15 +149,8 @@ pub fn code(codes: &[u8], i: usize) -> u16
 pub fn part(s: &[u8], at: usize, n: usize) -> &[u8]
     ensures { result.now ≡ take n (drop at s.now) }
 {
-    if s.len() <= at {
-        return &s[0..0];
-    }
-    let end = s.len();
-    if end - at <= n {
-        return &s[at..end];
-    }
-    let end = at + n;
-    &s[at..end]
+    let rest = &s[at.min(s.len())..];
+    &rest[..n.min(rest.len())]
 }
 
 // A product of a width and a count.
@@ -128,7 +166,7 @@ fn entries_size(rec: &[u8], at: usize) -> usize
     requires { at < 2199023255552 }
     ensures { (result ≡ entries_size rec.now at) × (result < 16777216) }
 {
-    let width = size(byte(rec, at + 1));
+    let width = usize::from(byte(rec, at + 1));
     product(width, short(rec, at + 2))
 }
 
@@ -136,35 +174,34 @@ fn entries_size(rec: &[u8], at: usize) -> usize
 fn place(rec: &[u8], tag: u8) -> usize
     ensures { (result ≡ place_of (short_at rec.now 6) rec.now tag 8) × (result < 2199023255552) }
 {
-    let n = short(rec, 6);
-    let mut at: usize = 8;
-    let mut i: usize = 0;
-    while i < n {
+    let mut at = 8;
+    for _ in 0..short(rec, 6) {
         if byte(rec, at) == tag {
             return at;
         }
         at += 4 + entries_size(rec, at);
-        i += 1;
     }
     at
 }
 
 // The entries of the field with a tag, none where the record lacks it.
-pub fn field(rec: &[u8], tag: u8) -> &[u8]
-    ensures { result.now ≡ field_of rec.now tag }
+pub fn field(rec: &[u8], tag: Tag) -> &[u8]
+    ensures { result.now ≡ field_of rec.now (tag_of tag) }
 {
-    let at = place(rec, tag);
+    let at = place(rec, u8::from(tag));
     part(rec, at + 4, entries_size(rec, at))
 }
 
 // Whether the record has the field with a tag, be it empty.
-pub fn has(rec: &[u8], tag: u8) -> bool
-    ensures { result ≡ has_field rec.now tag }
+pub fn has(rec: &[u8], tag: Tag) -> bool
+    ensures { result ≡ has_field rec.now (tag_of tag) }
 {
+    let tag = u8::from(tag);
     byte(rec, place(rec, tag)) == tag
 }
 
 // The reaches, the greatest length and the allowances.
+// desk_text has the same six numbers, and neither stands on the other.
 #[derive(Clone, Copy)]
 pub struct Limits {
     pub dup_max: usize,
@@ -223,57 +260,33 @@ pub fn places(lent: &[u8], steps: usize) -> usize
 pub fn price_list<'a>(bytes: &'a [u8], rec: &[u8]) -> &'a [u8]
     ensures { result.now ≡ take 784 (drop (short_at bytes.now 8 + 784 * short_at (field_of rec.now 4) 0) bytes.now) }
 {
-    let i = short(field(rec, TABLES), 0);
+    let i = short(field(rec, Tag::Tables), 0);
     part(bytes, short(bytes, 8) + 784 * i, 784)
 }
 
 pub fn kinds<'a>(bytes: &'a [u8], rec: &[u8]) -> &'a [u8]
     ensures { result.now ≡ take (passed_at (field_of rec.now 5) 2 64) (drop (short_at bytes.now 8 + 784 * short_at bytes.now 10 + 64 * short_at (field_of rec.now 4) 2) bytes.now) }
 {
-    let i = short(field(rec, TABLES), 2);
+    let i = short(field(rec, Tag::Tables), 2);
     part(
         bytes,
         short(bytes, 8) + 784 * short(bytes, 10) + 64 * i,
-        passed(field(rec, PASSED), 2, 64),
+        passed(field(rec, Tag::Passed), 2, 64),
     )
 }
 
-// Whether the file begins as such a file does.
-fn is_named(bytes: &[u8]) -> bool {
-    let name = b"NIMSKV2\n";
-    let mut i: usize = 0;
-    while i < 8 {
-        if byte(bytes, i) != name[i] {
-            return false;
-        }
-        i += 1;
-    }
-    true
-}
-
-// Whether price lists have 196 numbers and kinds lists 64.
-fn fits_tables(bytes: &[u8]) -> bool {
-    if short(bytes, 12) != 196 {
-        return false;
-    }
-    short(bytes, 16) == 64
-}
-
-// Where the records begin, or 0 where this is no such file.
-pub fn records_at(bytes: &[u8]) -> usize
-    ensures { result ≤ length bytes.now }
+// Where the records begin, if this is such a file: it begins with its name, and price lists have 196 numbers and kinds lists 64.
+pub fn records_at(bytes: &[u8]) -> Option<usize>
+    ensures { IfSome result (λ from. from ≤ length bytes.now) }
 {
     let from = short(bytes, 8) + 784 * short(bytes, 10) + 64 * short(bytes, 14);
-    if !is_named(bytes) {
-        return 0;
+    let named = bytes.starts_with(b"NIMSKV2\n");
+    let fits = short(bytes, 12) == 196 && short(bytes, 16) == 64;
+    if named && fits && from <= bytes.len() {
+        Some(from)
+    } else {
+        None
     }
-    if !fits_tables(bytes) {
-        return 0;
-    }
-    if bytes.len() < from {
-        return 0;
-    }
-    from
 }
 
 // The bytes of an entry of the field with a tag, 0 for a tag that is not known.
@@ -290,119 +303,83 @@ fn is_known(rec: &[u8], at: usize, last: u8) -> bool
     ensures { result ≡ true → FieldKnown rec.now at last }
 {
     let tag = byte(rec, at);
-    if tag <= last {
-        return false;
-    }
     let width = width_of(tag);
-    if width == 0 {
-        return false;
-    }
-    if byte(rec, at + 1) != width {
-        return false;
-    }
-    true
+    last < tag && width != 0 && byte(rec, at + 1) == width
 }
 
-// 0 where all fields are known and fill the record, one more than the tag of the first that is not known or out of order, or 257.
-pub fn strange_field(rec: &[u8]) -> usize
-    ensures { result ≡ 0 → AllKnown rec.now }
+// Whether all fields are known, stand by rising tag and fill the record.
+pub fn check_fields(rec: &[u8]) -> Result<(), Strange>
+    ensures { OnOk result (AllKnown rec.now) }
 {
-    let n = short(rec, 6);
-    let mut at: usize = 8;
-    let mut last: u8 = 0;
-    let mut i: usize = 0;
-    while i < n {
+    let mut at = 8;
+    let mut last = 0;
+    for _ in 0..short(rec, 6) {
         if !is_known(rec, at, last) {
-            return 1 + size(byte(rec, at));
+            return Err(Strange::Field(byte(rec, at)));
         }
         last = byte(rec, at);
         at += 4 + entries_size(rec, at);
-        i += 1;
     }
     if at != rec.len() {
-        return 257;
+        return Err(Strange::Length);
     }
-    0
+    Ok(())
 }
 
 // Whether no more of a table is passed than it has.
 fn fits_passed(counts: &[u8]) -> bool {
-    if 196 < passed(counts, 0, 196) {
-        return false;
-    }
-    passed(counts, 2, 64) <= 64
+    passed(counts, 0, 196) <= 196 && passed(counts, 2, 64) <= 64
 }
 
 // Whether a record's call and tables are there.
 fn is_there(bytes: &[u8], rec: &[u8]) -> bool {
-    if 6 < short(rec, 4) {
-        return false;
-    }
-    if !fits_passed(field(rec, PASSED)) {
-        return false;
-    }
-    let tables = field(rec, TABLES);
-    if short(bytes, 10) <= short(tables, 0) {
-        return false;
-    }
-    short(tables, 2) < short(bytes, 14)
+    let tables = field(rec, Tag::Tables);
+    Call::try_from(short(rec, 4)).is_ok()
+        && fits_passed(field(rec, Tag::Passed))
+        && short(tables, 0) < short(bytes, 10)
+        && short(tables, 2) < short(bytes, 14)
 }
 
 // Whether a record lends no more than there is room for.
 fn roomy(rec: &[u8]) -> bool {
-    let lent = field(rec, LENT);
-    if STEPS < count(lent, 0) {
-        return false;
-    }
-    if 8 * ENTRIES < count(lent, 4) {
-        return false;
-    }
-    if ENTRIES < count(lent, 8) {
-        return false;
-    }
-    if 4 * ENTRIES < count(lent, 12) {
-        return false;
-    }
-    if STEPS < count(field(rec, PLACES), 0) {
-        return false;
-    }
-    field(rec, ASKED).len() <= 2 * STEPS
+    let lent = field(rec, Tag::Lent);
+    count(lent, 0) <= STEPS
+        && count(lent, 4) <= 8 * ENTRIES
+        && count(lent, 8) <= ENTRIES
+        && count(lent, 12) <= 4 * ENTRIES
+        && count(field(rec, Tag::Places), 0) <= STEPS
+        && field(rec, Tag::Asked).len() <= 2 * STEPS
 }
 
 // Whether a record can be asked: it is known to its end and has an answer.
 fn is_whole(bytes: &[u8], rec: &[u8]) -> bool
     ensures { result ≡ true → AllKnown rec.now }
 {
-    if strange_field(rec) != 0 {
-        return false;
-    }
-    if field(rec, ANSWER).len() == 0 {
-        return false;
-    }
-    if !is_there(bytes, rec) {
-        return false;
-    }
-    roomy(rec)
+    check_fields(rec).is_ok()
+        && !field(rec, Tag::Answer).is_empty()
+        && is_there(bytes, rec)
+        && roomy(rec)
 }
 
-// The bytes of the record at a place, or 0 where there is no whole record.
-pub fn record_size(bytes: &[u8], at: usize) -> usize
+// The record at a place, if there is a whole one.
+pub fn record_at(bytes: &[u8], at: usize) -> Option<&[u8]>
     requires { at ≤ length bytes.now }
-    ensures { (at + result ≤ length bytes.now) × (0 < result → AllKnown (take result (drop at bytes.now))) }
+    ensures { IfSome result (λ rec. (at + length rec.now ≤ length bytes.now) × (rec.now ≡ take (length rec.now) (drop at bytes.now)) × AllKnown rec.now) }
 {
-    let left = bytes.len() - at;
     let size = count(part(bytes, at, 4), 0);
-    if left < size {
-        return 0;
+    let rec = part(bytes, at, size);
+    if rec.len() == size && is_whole(bytes, rec) {
+        Some(rec)
+    } else {
+        None
     }
-    if !is_whole(bytes, part(bytes, at, size)) {
-        return 0;
-    }
-    size
 }
 
-// The strange field of the record at a place, as strange_field says it.
-pub fn strange_at(bytes: &[u8], at: usize) -> usize {
+// The tag of the field that keeps the record at a place from being read, if that is why.
+pub fn strange_at(bytes: &[u8], at: usize) -> Option<u8> {
     let size = count(part(bytes, at, 4), 0);
-    strange_field(part(bytes, at, size))
+    match check_fields(part(bytes, at, size)) {
+        Err(Strange::Field(tag)) => Some(tag),
+        _ => None,
+    }
 }

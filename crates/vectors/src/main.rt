@@ -8,202 +8,157 @@ mod rooms;
 ghost use Rattle.std.specs.Prelude.{◌≡◌, ◌+◌, ◌<◌, ◌≤◌, length};
 ghost use Rattle.vectors.specs.File.{IsPrefixLen};
 
+use arrayvec::ArrayVec;
 use compare::{same_answer, same_count, same_fields, same_keys, same_steps};
-use file::{count, field, number, part};
-use rooms::{cut8, cut16, cut32, cut64, fill_result, fill_steps, fill_work};
+use file::{Call, ENTRIES, FILE, NODES, OPEN, STEPS, Tag, count, field, number};
+use rooms::{cut, fill_result, fill_steps, fill_work};
+use star_swap::Written;
 use std::fs::File;
 use std::io;
 use std::io::Read;
 
-// How many records are read, which differs first and how many differ. Where the file is not sound: the record that cannot be read, and its
-// strange field.
-#[derive(Clone, Copy)]
+// How many records are read, which differs first and how many differ.
+#[derive(Clone, Copy, Default)]
 struct Tally {
-    sound: bool,
     records: usize,
     first: usize,
     wrong: usize,
 }
 
-// Whether the planner answers as the record says and writes the record's steps alone.
-fn plan_as(
+// The record that cannot be read, and the tag of the field that keeps it from being read, if that is why.
+#[derive(Clone, Copy)]
+struct Unreadable {
+    record: usize,
+    field: Option<u8>,
+}
+
+// The kinds and prices that a record passes.
+#[derive(Clone, Copy)]
+struct Tables<'a> {
+    kinds: &'a [u8],
+    prices: &'a [u32],
+}
+
+// Whether the planner, over lists of the lengths that the record says, answers as the record says and writes the record's steps alone.
+// The lists stay four parameters, here and in the engine: the check lends no two fields of a struct behind a reference at once.
+fn check_plan(
     rec: &[u8],
-    kinds: &[u8],
-    prices: &[u32],
+    tables: Tables<'_>,
     steps: &mut [u16],
     nodes: &mut [u64],
     heads: &mut [u64],
     list: &mut [u64],
 ) -> bool {
-    let q = file::limits_of(field(rec, file::LIMITS));
+    let q = file::limits_of(field(rec, Tag::Limits));
+    let lent = field(rec, Tag::Lent);
+    let s = cut(count(lent, 0), steps);
+    let n = cut(count(lent, 4), nodes);
+    let h = cut(count(lent, 8), heads);
+    let l = cut(count(lent, 12), list);
+    let steps = &mut steps[..s];
+    fill_steps(steps);
     let r = planner::plan(
-        field(rec, file::START),
-        field(rec, file::GOAL),
+        field(rec, Tag::Start),
+        field(rec, Tag::Goal),
         q.dup_max,
         q.swap_max,
         q.max_len,
-        file::beneath_of(field(rec, file::BENEATH)),
+        file::beneath_of(field(rec, Tag::Beneath)),
         q.max_expansions,
         q.states_without,
         q.states_with,
-        kinds,
-        prices,
+        tables.kinds,
+        tables.prices,
         steps,
-        nodes,
-        heads,
-        list,
-    );
-    if same_answer(field(rec, file::ANSWER), r) {
-        return same_steps(field(rec, file::PLAN), steps);
-    }
-    false
-}
-
-fn fresh_plan_as(
-    rec: &[u8],
-    kinds: &[u8],
-    prices: &[u32],
-    steps: &mut [u16],
-    nodes: &mut [u64],
-    heads: &mut [u64],
-    list: &mut [u64],
-) -> bool {
-    fill_steps(steps);
-    plan_as(rec, kinds, prices, steps, nodes, heads, list)
-}
-
-// The planner, over lists of the lengths that the record says.
-fn check_plan(
-    rec: &[u8],
-    kinds: &[u8],
-    prices: &[u32],
-    steps: &mut [u16],
-    nodes: &mut [u64],
-    heads: &mut [u64],
-    list: &mut [u64],
-) -> bool {
-    let lent = field(rec, file::LENT);
-    let s = cut16(count(lent, 0), steps);
-    let n = cut64(count(lent, 4), nodes);
-    let h = cut64(count(lent, 8), heads);
-    let l = cut64(count(lent, 12), list);
-    fresh_plan_as(
-        rec,
-        kinds,
-        prices,
-        &mut steps[..s],
         &mut nodes[..n],
         &mut heads[..h],
         &mut list[..l],
-    )
+    );
+    same_answer(field(rec, Tag::Answer), r) && same_steps(field(rec, Tag::Plan), steps)
 }
 
 // Whether the popped keys of the record are written, and they alone. A record from before there were any says nothing of them.
 fn same_popped(rec: &[u8], popped: &[u8]) -> bool {
-    if file::has(rec, file::POPPED) {
-        return same_keys(field(rec, file::POPPED), popped);
-    }
-    true
+    !file::has(rec, Tag::Popped) || same_keys(field(rec, Tag::Popped), popped)
 }
 
 // Whether replay answers as the record says and writes the record's end window and popped keys alone.
 fn replay_as(rec: &[u8], kinds: &[u8], steps: &[u16], res: &mut [u8], popped: &mut [u8]) -> bool {
-    let q = file::limits_of(field(rec, file::LIMITS));
+    let q = file::limits_of(field(rec, Tag::Limits));
+    fill_result(res);
+    fill_result(popped);
     let r = replay::replay(
-        field(rec, file::START),
+        field(rec, Tag::Start),
         steps,
         q.dup_max,
         q.swap_max,
         q.max_len,
-        file::beneath_of(field(rec, file::BENEATH)),
+        file::beneath_of(field(rec, Tag::Beneath)),
         kinds,
         res,
         popped,
     );
     let got = [r.refusal as usize, r.index, r.length, r.highest];
-    if !same_fields(field(rec, file::ANSWER), &got) {
-        return false;
-    }
-    if !same_keys(field(rec, file::WINDOW), res) {
-        return false;
-    }
-    same_popped(rec, popped)
-}
-
-fn fresh_replay_as(
-    rec: &[u8],
-    kinds: &[u8],
-    steps: &[u16],
-    res: &mut [u8],
-    popped: &mut [u8],
-) -> bool {
-    fill_result(res);
-    fill_result(popped);
-    replay_as(rec, kinds, steps, res, popped)
+    same_fields(field(rec, Tag::Answer), &got)
+        && same_keys(field(rec, Tag::Window), res)
+        && same_popped(rec, popped)
 }
 
 fn check_replay(rec: &[u8], kinds: &[u8], steps: &[u16]) -> bool {
-    let mut room = rooms::result_room();
-    let mut keys = rooms::result_room();
-    let n = cut8(count(field(rec, file::LENT), 0), &room);
-    let p = cut8(file::places(field(rec, file::PLACES), steps.len()), &keys);
-    fresh_replay_as(rec, kinds, steps, &mut room[..n], &mut keys[..p])
+    let mut room = [0; STEPS];
+    let mut keys = [0; STEPS];
+    let n = cut(count(field(rec, Tag::Lent), 0), &room);
+    let p = cut(file::places(field(rec, Tag::Places), steps.len()), &keys);
+    replay_as(rec, kinds, steps, &mut room[..n], &mut keys[..p])
 }
 
 // Whether stepping back from the record's end window answers as the record says and writes the record's start alone.
 fn rewind_as(rec: &[u8], kinds: &[u8], steps: &[u16], res: &mut [u8]) -> bool {
-    let q = file::limits_of(field(rec, file::LIMITS));
+    let q = file::limits_of(field(rec, Tag::Limits));
+    fill_result(res);
     let r = rewind::rewind(
-        field(rec, file::START),
+        field(rec, Tag::Start),
         steps,
-        field(rec, file::POPPED),
+        field(rec, Tag::Popped),
         q.dup_max,
         q.swap_max,
         q.max_len,
-        file::beneath_of(field(rec, file::BENEATH)),
+        file::beneath_of(field(rec, Tag::Beneath)),
         kinds,
         res,
     );
     let got = [r.refusal as usize, r.length];
-    if same_fields(field(rec, file::ANSWER), &got) {
-        return same_keys(field(rec, file::WINDOW), res);
-    }
-    false
-}
-
-fn fresh_rewind_as(rec: &[u8], kinds: &[u8], steps: &[u16], res: &mut [u8]) -> bool {
-    fill_result(res);
-    rewind_as(rec, kinds, steps, res)
+    same_fields(field(rec, Tag::Answer), &got) && same_keys(field(rec, Tag::Window), res)
 }
 
 fn check_rewind(rec: &[u8], kinds: &[u8], steps: &[u16]) -> bool {
-    let mut room = rooms::result_room();
-    let n = cut8(count(field(rec, file::LENT), 0), &room);
-    fresh_rewind_as(rec, kinds, steps, &mut room[..n])
+    let mut room = [0; STEPS];
+    let n = cut(count(field(rec, Tag::Lent), 0), &room);
+    rewind_as(rec, kinds, steps, &mut room[..n])
 }
 
-fn check_mark(rec: &[u8], kinds: &[u8], prices: &[u32], steps: &[u16]) -> bool {
-    let q = file::limits_of(field(rec, file::LIMITS));
-    let ceiling = field(rec, file::CEILING);
+fn check_mark(rec: &[u8], tables: Tables<'_>, steps: &[u16]) -> bool {
+    let q = file::limits_of(field(rec, Tag::Limits));
+    let ceiling = field(rec, Tag::Ceiling);
     let r = marking::mark(
-        field(rec, file::START),
-        field(rec, file::GOAL),
+        field(rec, Tag::Start),
+        field(rec, Tag::Goal),
         steps,
         q.dup_max,
         q.swap_max,
         q.max_len,
-        file::beneath_of(field(rec, file::BENEATH)),
-        kinds,
-        prices,
+        file::beneath_of(field(rec, Tag::Beneath)),
+        tables.kinds,
+        tables.prices,
         number(ceiling, 0),
         number(ceiling, 4),
     );
     let got = [r.refusal as usize, r.index, r.mark as usize, r.highest];
-    same_fields(field(rec, file::ANSWER), &got)
+    same_fields(field(rec, Tag::Answer), &got)
 }
 
 fn check_pack(rec: &[u8]) -> bool {
-    let r = window::pack(field(rec, file::START));
+    let r = window::pack(field(rec, Tag::Start));
     let low = r.lo as usize;
     let high = r.hi as usize;
     let got = [
@@ -213,80 +168,39 @@ fn check_pack(rec: &[u8]) -> bool {
         high % 4294967296,
         high / 4294967296,
     ];
-    same_fields(field(rec, file::ANSWER), &got)
+    same_fields(field(rec, Tag::Answer), &got)
 }
 
-fn star_as(rec: &[u8], steps: &mut [u16]) -> bool {
-    let swap_max = count(field(rec, file::LIMITS), 4);
-    let r = star_swap::star_swap(
-        field(rec, file::START),
-        field(rec, file::GOAL),
-        swap_max,
-        steps,
-    );
-    if same_count(field(rec, file::ANSWER), r.refusal, r.count) {
-        return same_steps(field(rec, file::PLAN), steps);
-    }
-    false
-}
-
-fn tail_as(rec: &[u8], steps: &mut [u16]) -> bool {
-    let swap_max = count(field(rec, file::LIMITS), 4);
-    let r = builders::delete_tail(
-        field(rec, file::START),
-        field(rec, file::GOAL),
-        swap_max,
-        steps,
-    );
-    if same_count(field(rec, file::ANSWER), r.refusal, r.count) {
-        return same_steps(field(rec, file::PLAN), steps);
-    }
-    false
-}
-
-// Star-swap, or else delete-tail.
-fn built_as(rec: &[u8], star: bool, steps: &mut [u16]) -> bool {
+// Star-swap or delete-tail, over a list of the length that the record says.
+fn check_built<F: FnOnce(&[u8], &[u8], usize, &mut [u16]) -> Written>(
+    rec: &[u8],
+    build: F,
+    list: &mut [u16],
+) -> bool
+    requires { F.IsAlwaysCallable build }
+{
+    let n = cut(count(field(rec, Tag::Lent), 0), list);
+    let steps = &mut list[..n];
     fill_steps(steps);
-    if star {
-        return star_as(rec, steps);
-    }
-    tail_as(rec, steps)
+    let swap_max = count(field(rec, Tag::Limits), 4);
+    let r = build(
+        field(rec, Tag::Start),
+        field(rec, Tag::Goal),
+        swap_max,
+        steps,
+    );
+    same_count(field(rec, Tag::Answer), r.refusal, r.count)
+        && same_steps(field(rec, Tag::Plan), steps)
 }
 
-fn check_built(rec: &[u8], star: bool, steps: &mut [u16]) -> bool {
-    let n = cut16(count(field(rec, file::LENT), 0), steps);
-    built_as(rec, star, &mut steps[..n])
-}
-
-// Replay, stepping back, or else marking.
-fn asked_as(rec: &[u8], call: usize, kinds: &[u8], prices: &[u32], steps: &mut [u16]) -> bool {
-    rooms::load_steps(field(rec, file::ASKED), steps);
-    if call == 1 {
-        return check_replay(rec, kinds, steps);
-    }
-    if call == 6 {
-        return check_rewind(rec, kinds, steps);
-    }
-    check_mark(rec, kinds, prices, steps)
-}
-
-fn check_asked(rec: &[u8], call: usize, kinds: &[u8], prices: &[u32], steps: &mut [u16]) -> bool {
-    let n = cut16(field(rec, file::ASKED).len() / 2, steps);
-    asked_as(rec, call, kinds, prices, &mut steps[..n])
-}
-
-// Every call but the planner's.
-fn check_other(rec: &[u8], call: usize, kinds: &[u8], prices: &[u32], steps: &mut [u16]) -> bool {
-    if call == 3 {
-        return check_pack(rec);
-    }
-    if call == 4 {
-        return check_built(rec, true, steps);
-    }
-    if call == 5 {
-        return check_built(rec, false, steps);
-    }
-    check_asked(rec, call, kinds, prices, steps)
+// The steps that a record asks, over the first places of a list; how many.
+fn asked(rec: &[u8], list: &mut [u16]) -> usize
+    ensures { IsPrefixLen result list.new }
+{
+    let codes = field(rec, Tag::Asked);
+    let n = cut(codes.len() / 2, list);
+    rooms::load_steps(codes, &mut list[..n]);
+    n
 }
 
 // Whether the call of a record answers as the record says.
@@ -299,14 +213,33 @@ fn check_record(
     list: &mut [u64],
 ) -> bool {
     let table = rooms::price_list(bytes, rec);
+    let n = cut(file::passed(field(rec, Tag::Passed), 0, 196), &table);
     let kinds = file::kinds(bytes, rec);
-    let n = cut32(file::passed(field(rec, file::PASSED), 0, 196), &table);
-    let prices = &table[..n];
-    let call = file::short(rec, 4);
-    if call == 0 {
-        return check_plan(rec, kinds, prices, steps, nodes, heads, list);
+    let tables = Tables {
+        kinds,
+        prices: &table[..n],
+    };
+    let Ok(call) = Call::try_from(file::short(rec, 4)) else {
+        return false;
+    };
+    match call {
+        Call::Plan => check_plan(rec, tables, steps, nodes, heads, list),
+        Call::Pack => check_pack(rec),
+        Call::StarSwap => check_built(rec, star_swap::star_swap, steps),
+        Call::DeleteTail => check_built(rec, builders::delete_tail, steps),
+        Call::Replay => {
+            let n = asked(rec, steps);
+            check_replay(rec, kinds, &steps[..n])
+        }
+        Call::Mark => {
+            let n = asked(rec, steps);
+            check_mark(rec, tables, &steps[..n])
+        }
+        Call::Rewind => {
+            let n = asked(rec, steps);
+            check_rewind(rec, kinds, &steps[..n])
+        }
     }
-    check_other(rec, call, kinds, prices, steps)
 }
 
 impl Tally {
@@ -315,32 +248,19 @@ impl Tally {
         requires { (self.records < 4294967296) × (self.wrong ≤ self.records) }
         ensures { (result.records ≡ self.records + 1) × (result.wrong ≤ result.records) }
     {
-        let i = self.records;
-        let wrong = self.wrong;
+        let records = self.records + 1;
         if same {
-            return Tally {
-                sound: true,
-                records: i + 1,
-                first: self.first,
-                wrong,
-            };
+            return Tally { records, ..self };
         }
-        let first = if wrong == 0 { i } else { self.first };
         Tally {
-            sound: true,
-            records: i + 1,
-            first,
-            wrong: wrong + 1,
+            records,
+            first: if self.wrong == 0 {
+                self.records
+            } else {
+                self.first
+            },
+            wrong: self.wrong + 1,
         }
-    }
-}
-
-fn unreadable(records: usize, strange: usize) -> Tally {
-    Tally {
-        sound: false,
-        records,
-        first: strange,
-        wrong: 0,
     }
 }
 
@@ -352,95 +272,75 @@ fn check_records(
     nodes: &mut [u64],
     heads: &mut [u64],
     list: &mut [u64],
-) -> Tally
+) -> Result<Tally, Unreadable>
     requires { from ≤ length bytes.now }
 {
-    let n = count(bytes, 20);
     let mut at = from;
-    let mut tally = Tally {
-        sound: true,
-        records: 0,
-        first: 0,
-        wrong: 0,
-    };
-    while tally.records < n {
-        let size = file::record_size(bytes, at);
-        if size == 0 {
-            return unreadable(tally.records, file::strange_at(bytes, at));
-        }
-        let same = check_record(bytes, part(bytes, at, size), steps, nodes, heads, list);
-        tally = tally.noted(same);
-        at += size;
+    let mut tally = Tally::default();
+    for record in 0..count(bytes, 20) {
+        let Some(rec) = file::record_at(bytes, at) else {
+            let field = file::strange_at(bytes, at);
+            return Err(Unreadable { record, field });
+        };
+        tally = tally.noted(check_record(bytes, rec, steps, nodes, heads, list));
+        at += rec.len();
     }
-    Tally {
-        sound: at == bytes.len(),
-        records: tally.records,
-        first: tally.first,
-        wrong: tally.wrong,
+    if at != bytes.len() {
+        return Err(Unreadable {
+            record: tally.records,
+            field: None,
+        });
     }
+    Ok(tally)
 }
 
-fn check_file(bytes: &[u8]) -> Tally {
-    let mut steps = rooms::step_room();
-    let mut nodes = rooms::node_room();
-    let mut heads = rooms::head_room();
-    let mut list = rooms::open_room();
+fn check_file(bytes: &[u8]) -> Result<Tally, Unreadable> {
+    let mut steps = [0; STEPS];
+    let mut nodes = [0; NODES];
+    let mut heads = [0; ENTRIES];
+    let mut list = [0; OPEN];
     fill_work(&mut nodes, 3);
     fill_work(&mut heads, 5);
     fill_work(&mut list, 7);
-    let from = file::records_at(bytes);
-    if from == 0 {
-        return unreadable(0, 0);
-    }
+    let from = file::records_at(bytes).ok_or(Unreadable {
+        record: 0,
+        field: None,
+    })?;
     check_records(bytes, from, &mut steps, &mut nodes, &mut heads, &mut list)
 }
 
 // Which record cannot be read, and which of its fields is not known, if that is why.
-fn say_unreadable(rt: &impl Print, record: usize, strange: usize) -> io::Result<()> {
-    print!(rt; "unreadable at record {record}")?;
-    if strange % 257 != 0 {
-        let tag = strange - 1;
-        print!(rt; ": field {tag} is not known or out of order")?;
+fn say_unreadable(rt: &impl Print, unreadable: Unreadable) -> io::Result<()> {
+    let record = unreadable.record;
+    match unreadable.field {
+        Some(tag) => println!(rt;
+            "unreadable at record {record}: field {tag} is not known or out of order"
+        ),
+        None => println!(rt; "unreadable at record {record}"),
     }
-    println!(rt)
 }
 
 fn say(rt: &impl Print, tally: Tally) -> io::Result<()> {
     let records = tally.records;
     let first = tally.first;
     let wrong = tally.wrong;
-    if !tally.sound {
-        return say_unreadable(rt, records, first);
-    }
     if wrong == 0 {
         return println!(rt; "{records} vectors as expected");
     }
     println!(rt; "record {first} differs, {wrong} of {records} differ")
 }
 
-// Reads until the list is full, the file ends or a read fails, and says how many bytes stand in the list.
-fn read_full(file: &mut File, list: &mut [u8]) -> usize
-    ensures { IsPrefixLen result list.new }
-{
-    let mut done: usize = 0;
-    while done < list.len() {
-        let n = file.read(&mut list[done..]).unwrap_or(0);
-        if n == 0 {
-            break;
-        }
-        done += n;
-    }
-    done
-}
-
 fn main(rt: HostRuntime) -> io::Result<()> {
     let path = "vectors.bin";
-    let mut file = match File::open(&rt, path) {
+    let file = match File::open(&rt, path) {
         Ok(file) => file,
         Err(error) => return eprintln!(rt; "{path}: {error}"),
     };
-    let mut bytes = rooms::file_room();
-    let n = read_full(&mut file, &mut bytes);
-    drop(file);
-    say(&rt, check_file(&bytes[..n]))
+    let mut bytes = ArrayVec::<u8, FILE>::new();
+    // A read that fails ends the file, as its end does.
+    let _ = io::copy(&mut file.take(FILE as u64), &mut bytes);
+    match check_file(&bytes) {
+        Ok(tally) => say(&rt, tally),
+        Err(unreadable) => say_unreadable(&rt, unreadable),
+    }
 }

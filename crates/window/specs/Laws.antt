@@ -1,5 +1,5 @@
 -- Laws of `pack`, over the width w.
-use Rattle.std.specs.Prelude.{◌≡◌, refl, ℕ, zero, suc, ◌+◌, ◌-◌, ◌*◌, ◌/◌, ◌%◌, ◌^◌, ◌≤◌, ◌<◌, Bool, true, false, ◌||◌, List, [], ◌∷◌, ltb, length, get_or, set}
+use Rattle.std.specs.Prelude.{◌≡◌, refl, ℕ, zero, suc, ◌+◌, ◌-◌, ◌*◌, ◌/◌, ◌%◌, ◌^◌, ◌≤◌, ◌<◌, Bool, true, false, ◌||◌, List, [], ◌∷◌, ◌++◌, ltb, length, get_or, set}
 use Rattle.std.proofs.Common.{sym, ap, ap₂, ◌∙◌, one-mul, add-mul, mul_right_comm, mul-le-mul, mul-zero, mul-suc, mul_comm, mul_assoc, mul-add, mul-one, div-one, zero-add, add_comm, not-suc-le-zero, le_of_suc-le-suc, mod-eq_of_lt, mul-le-mul_left, le_trans, le_of_eq, arith, ltb-false, pow_pos, pow-add, pow_mono, shr-shr}
 use Rattle.std.proofs.Math.Nat.{add-mul-mod_self_left, add-mul-div_left, div-eq_of_lt}
 use Rattle.costs.specs.Laws.{or_left}
@@ -29,6 +29,15 @@ key_lt w (k ∷ ks) (suc i) h = key_lt w ks i h.1
 pub keys_by : (w : ℕ) (xs : List ℕ) → ((i : ℕ) → i < length xs → get_or xs i 0 < 2 ^ w) → Keys w xs
 keys_by w [] h = tt
 keys_by w (k ∷ ks) h = (h 0 (omega arith), keys_by w ks (λ i l. h (suc i) (omega arith)))
+
+-- the keys in front of others, and those
+pub keys_front : (w : ℕ) (xs ys : List ℕ) → Keys w (xs ++ ys) → Keys w xs
+keys_front w [] ys h = tt
+keys_front w (x ∷ xs) ys h = (h.0, keys_front w xs ys h.1)
+
+pub keys_behind : (w : ℕ) (xs ys : List ℕ) → Keys w (xs ++ ys) → Keys w ys
+keys_behind w [] ys h = h
+keys_behind w (x ∷ xs) ys h = keys_behind w xs ys h.1
 
 pub keys_set : (w : ℕ) (xs : List ℕ) (i k : ℕ) → Keys w xs → k < 2 ^ w → Keys w (set xs i k)
 keys_set w [] i k h l = tt

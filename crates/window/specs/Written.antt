@@ -1,10 +1,9 @@
 -- A list with the first places written over.
-use Rattle.std.specs.Prelude.{ℕ, ◌+◌, ◌-◌, ◌<◌, ◌≤◌, List, [], ◌∷◌, ◌++◌, Bool, true, false, ◌≡◌, refl, eqb, length, get_or, set, take, drop}
-use Rattle.std.proofs.Common.{ap, sym, subst, ◌∙◌, zero-add, add-one, arith, eqb-true, eq-eqb, length-set, length-drop, length-append, take_at, drop-cons}
+use Rattle.std.specs.Prelude.{ℕ, ◌+◌, ◌-◌, ◌<◌, ◌≤◌, List, ◌∷◌, ◌++◌, ◌≡◌, refl, length, get_or, set, take, drop}
+use Rattle.std.proofs.Common.{ap, sym, subst, ◌∙◌, zero-add, add-one, arith, length-set, length-drop, length-append, take_at, drop-cons}
 use Rattle.std.proofs.Math.Seq.{paste, paste-zero, paste-suc, take-length}
 use Rattle.window.specs.declared.PackedState.{PackedState}
-use Rattle.window.specs.State.{Held, whole}
-use Rattle.window.specs.Laws.{pack_pos}
+use Rattle.window.specs.State.{Held}
 use Rattle.window.specs.Keys.{keys_of}
 
 pub over_turn : (d s : List ℕ) (i : ℕ) → i < length d → i < length s → set (paste d 0 s i) i (get_or s i 0) ≡ paste d 0 s (i + 1)
@@ -36,39 +35,6 @@ pub record Writing (xs old out : List ℕ) (s : PackedState) (i : ℕ) : Type 0 
 
 pub writing_first : (xs old : List ℕ) (s : PackedState) → length xs ≤ length old → Held 6 s xs → Writing xs old old s 0
 writing_first xs old s l h = record { low = omega arith; room = l; len = refl; text = paste-zero old 0 xs; left = h }
-
--- the window of no keys
-abbrev empty : PackedState
-empty = record { hi = 0; lo = 1 }
-
-is_one : whole empty ≡ 1
-unfolding whole
-is_one = refl
-
--- a window of no keys is that number, and any other is not
-same_number : (s : PackedState) (xs : List ℕ) → Held 6 s xs → length xs ≡ 0 → whole s ≡ whole empty
-same_number s [] h l = h.value ∙ sym is_one
-same_number s (k ∷ xs) h l = absurd (omega arith)
-
-other_number : (s : PackedState) (xs : List ℕ) → Held 6 s xs → 0 < length xs → whole s ≡ whole empty → ⊥
-other_number s [] h l e = omega arith
-other_number s (k ∷ xs) h l e = omega (arith, e ∙ is_one, h.value, pack_pos 6 xs)
-
-module _ (xs old out : List ℕ) (s : PackedState) (i : ℕ) (v : Writing xs old out s i) (r : Bool) (t : r ≡ eqb (whole s) (whole empty)) where
-  pub key_left : r ≡ false → i < length xs
-  key_left f = below (λ h. true_false (sym (eq-eqb _ _ (same_number s (drop i xs) v.left (length-drop i xs ∙ omega (arith, v.low)))) ∙ sym t ∙ f))
-    where
-      true_false : true ≡ false → ⊥
-      true_false e = let z : ◌≡◌ {A = ℕ} 0 1 = cc in omega arith
-
-      below : (length xs ≤ i → ⊥) → i < length xs
-      below h = omega (arith, h)
-
-  pub none_left : r ≡ true → i ≡ length xs
-  none_left f = at_end_lem (λ h. other_number s (drop i xs) v.left (omega (arith, length-drop i xs)) (eqb-true _ _ (sym t ∙ f)))
-    where
-      at_end_lem : (i < length xs → ⊥) → i ≡ length xs
-      at_end_lem h = omega (arith, h, v.low)
 
 module _ (xs old out : List ℕ) (s : PackedState) (i : ℕ) (v : Writing xs old out s i) where
   pub some_left : i < length xs → 0 < length (drop i xs)

@@ -1,13 +1,18 @@
 // Packed windows: at most 21 keys of 6 bits, the top key lowest, and a marker bit above them, in two halves of 64 bits.
 #![tactic(auto)]
 
-ghost use Rattle.std.specs.Prelude.{◌≡◌, List, ◌∷◌, ◌++◌, ℕ, ◌+◌, ◌-◌, ◌*◌, ◌/◌, ◌%◌, ◌^◌, ◌≤◌, ◌<◌, length, get_or, set, drop, eqb, ltb};
+ghost use Rattle.std.specs.Prelude.{◌≡◌, List, ◌∷◌, ◌++◌, ℕ, ◌+◌, ◌-◌, ◌*◌, ◌/◌, ◌%◌, ◌^◌, ◌≤◌, ◌<◌, length, get_or, set, drop, eqb, ltb, IfOk};
 ghost use Rattle.window.specs.Pack.{Keys};
-ghost use Rattle.window.specs.Packing.{packing};
+ghost use Rattle.window.specs.Packing.{packing, pack_refusal};
+ghost use Rattle.costs.specs.Refusal.{refusal_of};
 ghost use Rattle.window.specs.State.{Held, whole, swapped};
 ghost use Rattle.window.specs.Keys.{keys_of, Window};
 
-#[derive(Clone, Copy)]
+use costs::Refusal;
+
+// The state as an integer is hi * 2^64 + lo, so states compare as their fields do, in order. That it is of a window is no fact of the type:
+// work lists are read as any two numbers, and the search knows of its own rows alone that they are windows.
+#[derive(Clone, Copy, PartialEq, Eq, PartialOrd, Ord)]
 pub struct PackedState {
     pub hi: u64,
     pub lo: u64,
@@ -21,7 +26,7 @@ fn put_key(word: u64, s: u32, old: u64, new: u64) -> u64
     word - (old << s) + (new << s)
 }
 
-// What packing answers: the number of a refusal or 0, and the two halves.
+// What packing answers: the number of a refusal or 0, and the two halves. Numbers, since C gets it.
 #[repr(C)]
 #[derive(Clone, Copy)]
 pub struct Packing {
@@ -30,25 +35,38 @@ pub struct Packing {
     pub hi: u64,
 }
 
+#[tactic(auto, unfolding(crate::specs::Packing::packing, crate::specs::State::whole))]
 // The window of the keys, top first, as its low and its high 64 bits.
 pub fn pack(ids: &[u8]) -> Packing
     ensures { result ≡ packing 6 21 ids.now }
 {
-    let length = costs::row(6, 21 < ids.len(), 0);
-    let n = costs::row(5, costs::any_over(ids, 63), length);
-    if n != 0 {
-        return Packing {
-            refusal: n,
+    match packed(ids) {
+        Ok(s) => Packing {
+            refusal: 0,
+            lo: s.lo,
+            hi: s.hi,
+        },
+        Err(refusal) => Packing {
+            refusal: refusal.number(),
             lo: 0,
             hi: 0,
-        };
+        },
     }
-    let s = PackedState::from_ids(ids);
-    Packing {
-        refusal: 0,
-        lo: s.lo,
-        hi: s.hi,
+}
+
+#[tactic(auto, unfolding(crate::specs::Packing::pack_refusal))]
+// The window of the keys, or why there is none.
+fn packed(ids: &[u8]) -> Result<PackedState, Refusal>
+    ensures refusal { refusal_of result ≡ pack_refusal 6 21 ids.now }
+    ensures held { IfOk result (λ s. Held 6 s ids.now) }
+{
+    if costs::any_over(ids, 63) {
+        return Err(Refusal::Key);
     }
+    if 21 < ids.len() {
+        return Err(Refusal::Length);
+    }
+    Ok(PackedState::from_ids(ids))
 }
 
 impl PackedState {
@@ -58,10 +76,8 @@ impl PackedState {
         ensures { Held 6 result ids.now }
     {
         let mut s = PackedState { hi: 0, lo: 1 };
-        let mut i = ids.len();
-        while i > 0 {
-            i -= 1;
-            s = s.push(ids[i]);
+        for &key in ids.iter().rev() {
+            s = s.push(key);
         }
         s
     }
@@ -174,36 +190,28 @@ impl PackedState {
         requires { Window self × (length (keys_of self) ≤ length out.old) }
         ensures { (result ≡ length (keys_of self)) × (out.new ≡ keys_of self ++ drop (length (keys_of self)) out.old) }
     {
-        let empty = PackedState { hi: 0, lo: 1 };
+        let n = self.len();
         let mut s = self;
-        let mut i = 0;
-        while !s.same(empty) {
+        for i in 0..n {
             out[i] = s.get(0);
             s = s.pop();
-            i += 1;
         }
-        i
+        n
     }
 
-    // Whether the two are the same state.
+    // Whether the two are the same state: the derived test, with a contract on whole states.
+    #[tactic(auto, unfolding(crate::specs::State::whole))]
     pub fn same(self, other: PackedState) -> bool
         ensures { result ≡ eqb (whole self) (whole other) }
     {
-        if self.hi == other.hi {
-            self.lo == other.lo
-        } else {
-            false
-        }
+        self == other
     }
 
-    // Whether the state is less than the other, as integers.
+    // Whether the state is less than the other, as integers: the derived order, with a contract on whole states.
+    #[tactic(auto, unfolding(crate::specs::State::whole))]
     pub fn less(self, other: PackedState) -> bool
         ensures { result ≡ ltb (whole self) (whole other) }
     {
-        if self.hi == other.hi {
-            self.lo < other.lo
-        } else {
-            self.hi < other.hi
-        }
+        self < other
     }
 }

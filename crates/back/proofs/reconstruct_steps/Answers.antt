@@ -1,14 +1,7 @@
-use Rattle.back.proofs.Steps.{read_lost, count_known, count_few, count_fits}
-use Rattle.std.proofs.Common.{rules}
+use Rattle.std.proofs.Common.{[], refl, sym, suc}
+use Rattle.window.specs.State.{whole}
+use Rattle.back.proofs.Laws.{no_plan}
 use Rattle.back.proofs.reconstruct_steps.Goals as goal
 
-pub returns-in_default : goal.returns-in_default
-returns-in_default c = search read_lost
-
-pub write_steps-requires : goal.write_steps-requires
-write_steps-requires c = record {
-  kept = search rules;
-  goal_value = search count_known;
-  k_le_most = search count_few;
-  k_in_bounds = search count_fits;
-}
+pub returns-in_err-k : goal.returns-in_err-k
+returns-in_err-k c = rw c.from_residual.ensures (no_plan _ _ _ (suc c.args.most) (whole c.args.goal) 0 [] (sym c.in_err-k.ensures.count_is), refl)

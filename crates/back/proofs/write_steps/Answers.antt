@@ -1,26 +1,17 @@
-use Rattle.back.proofs.Steps.{writing_first, written_all, never_missing, never_none, some_left, fewer, place_left, written_on}
+use Rattle.std.proofs.Common.{arith}
+use Rattle.back.proofs.Steps.{writing_first, never_missing, written_on, written_all}
 use Rattle.back.proofs.write_steps.Goals as goal
 
-pub loop-start-init : goal.loop-start-init
-loop-start-init c = search writing_first
+pub loop-i-init : goal.loop-i-init
+loop-i-init c = λ from most e. writing_first from _ most _ _ e
 
-pub returns-then-same : goal.returns-then-same
-returns-then-same c = search written_all
+pub unwrap-step-requires : goal.unwrap-step-requires
+unwrap-step-requires c =
+    let t = c.requires.counted in
+    never_missing _ _ _ _ _ _ _ _ (c.loop-i.invariant t.0 t.1.0 t.1.1) (omega arith) _ c.parent.ensures
 
-pub returns-in_default : goal.returns-in_default
-returns-in_default c = search never_missing
+pub loop-i-preserved : goal.loop-i-preserved
+loop-i-preserved c = λ from most e. written_on _ _ _ _ _ _ _ _ (c.loop-i.invariant from most e) (omega arith) _ _ _ _ c.parent.ensures c.unwrap-step.ensures c.from.ensures.0
 
-pub returns-in_default-parent : goal.returns-in_default-parent
-returns-in_default-parent c = search never_none
-
-pub overflow_sub-i : goal.overflow_sub-i
-overflow_sub-i c = search some_left
-
-pub bounds-steps-i : goal.bounds-steps-i
-bounds-steps-i c = search place_left
-
-pub loop-start-smaller : goal.loop-start-smaller
-loop-start-smaller c = search fewer
-
-pub loop-start-preserved : goal.loop-start-preserved
-loop-start-preserved c = search written_on
+pub returns : goal.returns
+returns c = λ from most e. written_all _ _ _ _ _ _ _ _ (c.loop-i.invariant from most e) (omega arith)

@@ -1,27 +1,18 @@
--- The keys are buried, the rest popped, and star-swap finishes.
-use Rattle.std.specs.Prelude.{refl}
-use Rattle.builders.specs.Work.{fresh_begun}
-use Rattle.builders.specs.TailCode.{can_bury, can_pop, tail_route, tail_wrote}
-use Rattle.std.proofs.Common.{rules}
+-- Kept keys are buried, the others popped, and star-swap puts the kept ones in order.
+use Rattle.std.specs.Prelude.{ℕ, List, refl}
+use Rattle.std.proofs.Common.{subst}
+use Rattle.builders.specs.Draft.{Over}
+use Rattle.builders.specs.TailCode.{tail_pops, tail_routes, tail_wrote}
 use Rattle.builders.proofs.tail.Goals as goal
 
-pub bury_keys-buried-requires : goal.bury_keys-buried-requires
-bury_keys-buried-requires c =
-    (can_bury _ _ c.requires.1 _ (fresh_begun _ _ _ c.begin.ensures c.requires.2) _ c.lesser-bury.ensures, c.requires.2)
-
-pub pop_keys-work-requires : goal.pop_keys-work-requires
-pop_keys-work-requires c = (
-  can_pop _ _ c.requires.1 _ (fresh_begun _ _ _ c.begin.ensures c.requires.2) _ _ _ c.lesser-bury.ensures refl
-      c.bury_keys-buried.ensures,
-  search rules,
-)
+pub pop_keys-requires : goal.pop_keys-requires
+pop_keys-requires c = tail_pops _ _ c.requires.1 _ _ c.min-bury.ensures refl _ (rw c.begin-work.ensures at c.bury_keys.ensures)
 
 pub route-requires : goal.route-requires
-route-requires c =
-    tail_route _ _ c.requires.1 _ (fresh_begun _ _ _ c.begin.ensures c.requires.2) _ _ _ _ c.lesser-bury.ensures refl
-    c.bury_keys-buried.ensures c.pop_keys-work.ensures
+route-requires c = tail_routes _ _ c.requires.1 _ _ c.min-bury.ensures refl _ (rw c.begin-work.ensures at c.bury_keys.ensures) _ c.pop_keys.ensures
 
-pub returns : goal.returns
-returns c =
-    tail_wrote _ _ c.requires.1 _ (fresh_begun _ _ _ c.begin.ensures c.requires.2) _ _ _ _ c.lesser-bury.ensures refl
-    c.bury_keys-buried.ensures c.pop_keys-work.ensures _ c.route.ensures
+pub returns-clause-given : goal.returns-clause-given
+returns-clause-given c =
+    subst (λ (plan : List ℕ). Over plan c.give.result c.args.steps.now c.give.new.steps)
+    (tail_wrote _ _ c.requires.1 _ _ c.min-bury.ensures refl _ (rw c.begin-work.ensures at c.bury_keys.ensures) _ c.pop_keys.ensures _ c.route.ensures)
+    c.give.ensures.given

@@ -1,18 +1,18 @@
--- Nothing where refusal 10 would apply; else the plan, written over the first places.
+-- None, or delete-tail's plan.
 use Rattle.std.specs.Prelude.{refl}
-use Rattle.std.proofs.Common.{arith}
-use Rattle.builders.specs.BuildCode.{tail_none, tail_is, tail_some}
+use Rattle.std.proofs.Common.{sym}
+use Rattle.builders.specs.BuildCode.{built, built_none}
+use Rattle.builders.specs.Tail.{tail_plan}
+use Rattle.builders.specs.TailCode.{tail_fits, tail_own}
 use Rattle.builders.proofs.tail_plan.Goals as goal
 
-pub returns-then-none : goal.returns-then-none
-returns-then-none c = tail_none _ _ _ _ _ c.not_tail-none.ensures c.if-none.true
+pub tail-requires : goal.tail-requires
+tail-requires c = (c.requires.0, tail_own _ _ _ (tail_fits _ _ _ (sym c.if-not_tail.ensures) c.requires.0.short c.requires.1.keys), c.requires.2)
 
-pub tail-work-requires : goal.tail-work-requires
-tail-work-requires c = (c.requires.0, tail_is _ _ _ c.args.steps.now _ c.not_tail-none.ensures c.if-none.false c.requires.0 c.requires.1, refl)
-
-pub give-requires : goal.give-requires
-give-requires c = let w = c.tail-work.ensures in (omega (arith, w.room), omega (arith, w.room, w.full), omega (arith, w.room, c.requires.2))
+pub returns-then-not_tail : goal.returns-then-not_tail
+unfolding tail_plan
+returns-then-not_tail c = built_none _ _ (rw (← c.if-not_tail.ensures) refl)
 
 pub returns : goal.returns
-returns c =
-    tail_some _ _ _ _ _ c.not_tail-none.ensures _ _ c.if-none.false c.tail-work.ensures c.give.ensures
+unfolding tail_plan
+returns c = built _ _ _ _ _ (rw (← c.if-not_tail.ensures) refl) c.tail.ensures.given c.tail.ensures.few

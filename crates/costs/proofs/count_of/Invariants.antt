@@ -1,12 +1,7 @@
--- The count so far and what is left to count make the whole: the loop's invariant.
-use Prim.Native.Nat.{◌≤◌, ◌-◌, ◌+◌}
-use Rattle.std.proofs.Math.Path.{◌≡◌}
-use Rattle.std.specs.Prelude.{length, drop}
+-- The count so far and what is left decide; no more are counted than were looked at.
+use Rattle.std.specs.Prelude.{◌≡◌, ◌+◌, ◌≤◌, drop}
 use Rattle.costs.specs.Table.{count_of}
 use Rattle.costs.proofs.count_of.Given as goal
 
-abbrev pub invariant-loop-i : goal.invariant-loop-i
-invariant-loop-i l = (l.i ≤ length l.list) × (l.n ≤ l.i) × (count_of l.k l.list ≡ l.n + count_of l.k (drop l.i l.list))
-
-abbrev pub decreases-loop-i : goal.decreases-loop-i
-decreases-loop-i l = length l.list - l.i
+abbrev pub invariant-loop-byte : goal.invariant-loop-byte
+invariant-loop-byte l = (count_of l.k l.list ≡ l.n + count_of l.k (drop l.byte-index l.list)) × (l.n ≤ l.byte-index)

@@ -1,10 +1,11 @@
-use Rattle.desk.proofs.Bytes.{written_fits, written_more}
+use Rattle.desk.proofs.Bytes.{written_front, written_kept}
 use Rattle.desk.proofs.put_all.Goals as goal
 
-pub loop-preserved : goal.loop-preserved
-loop-preserved g c =
-    let text = c.args.text.now in
-    let fits = c.loop.invariant.0 in (
-      written_fits text _ _ fits c.in_ok-done.ensures.bound,
-      written_more text _ _ fits _ _ _ c.loop.invariant.1 c.in_ok-done.ensures.bytes,
-    )
+pub returns-then-is_empty-clause-front : goal.returns-then-is_empty-clause-front
+returns-then-is_empty-clause-front g c = written_front _ _ _ _ c.loop.invariant
+
+pub returns-in_err-count-clause-front : goal.returns-in_err-count-clause-front
+returns-in_err-count-clause-front g c = written_front _ _ _ _ (written_kept _ _ _ _ _ c.loop.invariant c.in_err-count.ensures.bytes)
+
+pub returns-clause-front : goal.returns-clause-front
+returns-clause-front g c = written_front _ _ _ _ c.loop.invariant

@@ -1,7 +1,6 @@
--- The output has the first bytes of the text, as many as are done.
-use Rattle.std.proofs.Common.{◌≤◌, length, take}
-use Rattle.std.specs.Io.KnownBytes.{Appends}
+-- The text is written but for the rest.
+use Rattle.desk.proofs.Bytes.{Written}
 use Rattle.desk.proofs.put_all.Given as goal
 
 abbrev pub invariant-loop : goal.invariant-loop
-invariant-loop g l = (l.done ≤ length l.text) × Appends (g.W.Write.contents l.initial.output) (g.W.Write.contents l.output) (take l.done l.text)
+invariant-loop g l = Written (g.W.Write.contents l.initial.output) (g.W.Write.contents l.output) l.text l.rest

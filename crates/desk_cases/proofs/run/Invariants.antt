@@ -1,8 +1,9 @@
-use Rattle.std.proofs.Common.{◌≤◌, length}
+-- A case takes bytes of the table.
+use Rattle.std.proofs.Common.{◌+◌, ◌≤◌, length}
 use Rattle.desk_cases.proofs.run.Given as goal
 
-abbrev pub invariant-loop-turns : goal.invariant-loop-turns
-invariant-loop-turns g l = l.at ≤ length l.table
+abbrev pub invariant-loop-case : goal.invariant-loop-case
+invariant-loop-case g l = l.count + length l.rest ≤ length l.table
 
-abbrev pub decreases-loop-turns : goal.decreases-loop-turns
-decreases-loop-turns g l = l.turns
+abbrev pub decreases-loop-case : goal.decreases-loop-case
+decreases-loop-case g l = length l.rest

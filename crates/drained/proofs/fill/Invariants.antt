@@ -1,10 +1,5 @@
--- `drained::fill` meets its contract.
-use Prim.Native.Nat.{◌-◌}
 use Rattle.drained.proofs.Loops.{Filling}
 use Rattle.drained.proofs.fill.Given as goal
 
 abbrev pub invariant-loop-i : goal.invariant-loop-i
 invariant-loop-i l = Filling l.initial.list l.list l.open l.i
-
-abbrev pub decreases-loop-i : goal.decreases-loop-i
-decreases-loop-i l = 40 - l.i

@@ -1,4 +1,4 @@
--- `face::remove_least` meets its contract: a turn of the code is a turn of the scan, and where it ends k is the place of the least.
+-- A turn of the code is a turn of the scan, and where it ends k is the place of the least.
 use Rattle.std.proofs.Common.{◌≡◌, ◌<◌, ◌+◌, ◌-◌, sym, ap, ◌∙◌, arith, subst, ℕ, set}
 use Rattle.face.specs.Open.{at, lesser_at, least_from, least_at}
 use Rattle.face.specs.Laws.{least_step, least_stop, lesser_below}

@@ -10,6 +10,3 @@ invariant-loop-i l = record {
   room : l.len ≤ length l.open;
   finds : least_from l.open l.k l.i (l.len - l.i) ≡ least_at l.open l.len;
 }
-
-abbrev pub decreases-loop-i : goal.decreases-loop-i
-decreases-loop-i l = l.len - l.i

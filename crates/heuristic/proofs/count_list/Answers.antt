@@ -1,24 +1,15 @@
-use Rattle.heuristic.specs.Counts.{count_on, count_end, count_start, count_small}
-use Rattle.std.specs.Prelude.{refl}
-use Prim.Native.Nat.{◌-◌}
-use Rattle.std.proofs.Common.{arith, sym}
-use Rattle.std.proofs.Math.Path.{◌∙◌}
+use Rattle.std.specs.Prelude.{take}
+use Rattle.std.proofs.Common.{arith, length-take}
+use Rattle.heuristic.specs.Counts.{count_on, count_small}
 use Rattle.heuristic.proofs.count_list.Goals as goal
 
-pub loop-i-init : goal.loop-i-init
-loop-i-init c = (omega arith, count_start _ c.args.list.now c.requires.2)
+pub overflow_add-table : goal.overflow_add-table
+overflow_add-table c =
+    let l = c.loop-key in
+    let n = length-take l.key-index c.args.list.now in
+    omega (arith, count_small l.table (take l.key-index c.args.list.now) _ (omega arith) (c.requires.0 l.key-index c.loop-key-test.true) l.invariant)
 
-pub more-requires : goal.more-requires
-more-requires c = let l = c.loop-i in
-    let k = c.requires.0 (l.i - 1) (omega (arith, l.invariant.0)) in
-    (omega (arith, l.invariant.1.size), count_small _ c.args.list.now l.i _ c.requires.1 k l.invariant.1)
-
-pub loop-i-preserved : goal.loop-i-preserved
-loop-i-preserved c = let l = c.loop-i in
-    (omega (arith, l.invariant.0), count_on _ _ c.args.list.now l.i _ c.loop-i-test.true l.invariant.0 c.requires.0 refl c.more.ensures l.invariant.1)
-
-pub shape_of-table : goal.shape_of-table
-shape_of-table c = c.loop-i.invariant.1.size ∙ sym c.requires.2.size
-
-pub returns : goal.returns
-returns c = count_end _ _ _ c.loop-i-test.false c.loop-i.invariant.1
+pub loop-key-preserved : goal.loop-key-preserved
+loop-key-preserved c =
+    let l = c.loop-key in
+    count_on l.table c.args.list.now l.key-index c.loop-key-test.true (c.requires.0 l.key-index c.loop-key-test.true) l.invariant

@@ -1,11 +1,7 @@
--- The sum so far and the pops left decide: the loop's invariant.
-use Prim.Native.Nat.{◌-◌, ◌≤◌}
-use Rattle.std.proofs.Math.Path.{◌≡◌}
-use Rattle.incumbent.specs.Flush.{with_pops, pops_cost}
+-- The sum so far and the pops that are left decide.
+use Rattle.std.specs.Prelude.{◌≡◌, ◌-◌}
+use Rattle.incumbent.specs.Flush.{pops_cost, with_pops}
 use Rattle.incumbent.proofs.pops_cost.Given as goal
 
-abbrev pub invariant-loop-i : goal.invariant-loop-i
-invariant-loop-i l = (l.i ≤ l.n) × (with_pops l.prices (l.n - l.i) l.sum ≡ pops_cost l.prices l.n)
-
-abbrev pub decreases-loop-i : goal.decreases-loop-i
-decreases-loop-i l = l.n - l.i
+abbrev pub invariant-loop : goal.invariant-loop
+invariant-loop l = pops_cost l.prices l.n ≡ with_pops l.prices (l.n - l.counter) l.sum

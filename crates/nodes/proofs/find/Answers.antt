@@ -4,8 +4,8 @@ use Rattle.nodes.proofs.find.Goals as goal
 pub loop-cur-init : goal.loop-cur-init
 loop-cur-init c = search (walk_start)
 
-pub returns-then-same : goal.returns-then-same
-returns-then-same c = search (walk_found)
+pub returns-then-has_state : goal.returns-then-has_state
+returns-then-has_state c = search (walk_found)
 
 pub loop-cur-preserved : goal.loop-cur-preserved
 loop-cur-preserved c = search (walk_next)

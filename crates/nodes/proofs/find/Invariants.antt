@@ -2,7 +2,7 @@ use Rattle.nodes.proofs.Lemmas.{Walk}
 use Rattle.nodes.proofs.find.Given as goal
 
 abbrev pub invariant-loop-cur : goal.invariant-loop-cur
-invariant-loop-cur l = Walk l.nodes l.heads l.n l.hi l.lo l.lim l.cur
+invariant-loop-cur l = Walk l.nodes l.heads l.n l.state l.lim l.cur
 
 abbrev pub decreases-loop-cur : goal.decreases-loop-cur
 decreases-loop-cur l = l.lim

@@ -1,68 +1,58 @@
--- The start is the goal; or the builders' plan is given; or the search's answer.
-use Prim.Native.Nat.{ℕ}
-use Rattle.std.specs.Prelude.{length}
-use Rattle.std.proofs.Math.Path.{◌∙◌}
-use Rattle.std.proofs.Common.{ap, sym, arith}
-use Rattle.costs.specs.declared.Cost.{Cost}
-use Rattle.costs.specs.Laws.{kinds_length}
-use Rattle.replay.specs.Machine.{ruled}
+-- The start is the goal, or the builders' plan is given, or the search's answer.
+use Rattle.std.specs.Prelude.{ℕ, ◌≡◌, eqb, false, length}
+use Rattle.std.proofs.Common.{ap, sym, ◌∙◌, arith, rules}
+use borrow.Author.Tests.{eq-eqb, ne_eqb}
+use Rattle.replay.specs.Machine.{rules_of}
+use Rattle.window.specs.Pack.{pack}
+use Rattle.window.specs.Laws.{pack_inj}
 use Rattle.algebra.specs.GasBytes.{gas_bytes}
 use Rattle.astar.specs.Planner.{Answer as Answered, searched}
+use Rattle.costs.specs.declared.Cost.{Cost}
 use Rattle.problem.specs.Problem.{problem_of}
 use Rattle.incumbent.specs.Hand.{Held}
+use Rattle.planner.specs.Refusal.{Asked, Lent, asked, allowances, lent}
+use Rattle.planner.specs.Accepted.{Accepted, start_window, goal_window, keys_below}
+use Rattle.planner.specs.Planned.{question_of, listed, plan_held, given}
+use Rattle.planner.specs.Cases.{still, at_goal_lem, no_expansion, by_search}
 use Rattle.planner.specs.declared.Answer.{Answer}
-use Rattle.planner.specs.Refusal.{asked, allowances, lent}
-use Rattle.planner.specs.Planned.{listed, plan_held, before, question_of, given}
-use Rattle.planner.specs.Accepted.{keys_below, start_window, goal_window}
-use Rattle.planner.specs.Cases.{still, at_goal_lem, no_expansion, by_search, held_is_lem}
 use Rattle.planner.proofs.accepted_plan.Goals as goal
 
-pub same_window-requires : goal.same_window-requires
-same_window-requires c =
-    let ok = c.requires in
-    (keys_below c.args.start.now ok.start_keys, omega (arith, ok.start_fits, ok.window), keys_below c.args.goal.now ok.goal_keys, omega (arith, ok.goal_fits, ok.window))
+module _ (a : Asked) (l : Lent) (ok : Accepted a l) where
+  -- windows that differ have other numbers
+  apart : (a.start ≡ a.goal → ⊥) → eqb (pack 6 a.start) (pack 6 a.goal) ≡ false
+  apart n = ne_eqb _ _ (λ e. n (pack_inj 6 (omega arith) a.start a.goal (keys_below a.start ok.start_keys) (keys_below a.goal ok.goal_keys) e))
 
-pub returns-then-same_window : goal.returns-then-same_window
-returns-then-same_window c =
+pub returns-then-eq : goal.returns-then-eq
+returns-then-eq c =
     let a = c.args in
-    let q = asked (ruled a.cfg a.kinds.now) a.prices.now a.start.now a.goal.now (allowances a.a.max_expansions a.a.states_without a.a.states_with) in
-    ap (λ (t : Answer). (t, c.args.steps.now)) (c.no_steps.ensures ∙ still (ruled c.args.cfg c.args.kinds.now) c.args.start.now)
-    ∙ ap (λ (t : Answered Cost ℕ). given (ruled a.cfg a.kinds.now) a.start.now t a.steps.now) (sym (at_goal_lem q (sym c.same_window.ensures ∙ c.if-same_window.true)))
+    let q = asked (rules_of a.rules) a.prices.now a.start.now a.goal.now (allowances a.a.max_expansions a.a.states_without a.a.states_with) in
+    let same : a.start.now ≡ a.goal.now = search rules in
+    ap (λ (t : Answer). (t, a.steps.now)) (c.no_steps.ensures ∙ still q.rules a.start.now)
+    ∙ ap (λ (t : Answered Cost ℕ). given q.rules a.start.now t a.steps.now) (sym (at_goal_lem q (eq-eqb _ _ (ap (pack 6) same))))
 
 pub in_hand-hand-requires : goal.in_hand-hand-requires
 in_hand-hand-requires c =
     let a = c.args in
-    let q = asked (ruled a.cfg a.kinds.now) a.prices.now a.start.now a.goal.now (allowances a.a.max_expansions a.a.states_without a.a.states_with) in
+    let q = asked (rules_of a.rules) a.prices.now a.start.now a.goal.now (allowances a.a.max_expansions a.a.states_without a.a.states_with) in
     let l = lent (length a.steps.now) (length a.nodes.now) (length a.heads.now) (length a.list.now) in
-    let ok = c.requires in
-    (start_window q l ok, goal_window q l ok, ok.window, kinds_length c.args.kinds.now ok.kinds, omega arith)
-
-pub give_held-requires : goal.give_held-requires
-give_held-requires c =
-    record {
-      count_bound = (c.in_hand-hand.ensures.1, omega arith, omega (arith, c.requires.steps));
-      kinds_len = (kinds_length c.args.kinds.now c.requires.kinds, c.requires.window);
-    }
+    (start_window q l c.requires, goal_window q l c.requires, omega arith)
 
 pub returns-then-a-eq0 : goal.returns-then-a-eq0
 returns-then-a-eq0 c =
     let a = c.args in
-    let q = asked (ruled a.cfg a.kinds.now) a.prices.now a.start.now a.goal.now (allowances a.a.max_expansions a.a.states_without a.a.states_with) in
-    c.give_held.ensures
-    ∙ ap (λ (h : Held). given (ruled a.cfg a.kinds.now) a.start.now (record { plan = plan_held h; ending = 1; expansions = 0 }) a.steps.now) (held_is_lem (before q) _ c.in_hand-hand.new.steps c.in_hand-hand.result c.in_hand-hand.ensures.0)
-    ∙ ap (λ (t : Answered Cost ℕ). given (ruled a.cfg a.kinds.now) a.start.now t a.steps.now) (sym (no_expansion q (sym c.same_window.ensures ∙ c.if-same_window.false) c.if-a-eq0.true))
-
-pub with_search-requires : goal.with_search-requires
-with_search-requires c =
-    record {
-      accepted = c.requires;
-      count_bound = (c.in_hand-hand.ensures.1, omega arith);
-    }
+    let q = asked (rules_of a.rules) a.prices.now a.start.now a.goal.now (allowances a.a.max_expansions a.a.states_without a.a.states_with) in
+    let l = lent (length a.steps.now) (length a.nodes.now) (length a.heads.now) (length a.list.now) in
+    let differ : a.start.now ≡ a.goal.now → ⊥ = search rules in
+    c.give_held.ensures 1 0
+    ∙ ap (λ (h : Held). given q.rules a.start.now (record { plan = plan_held h; ending = 1; expansions = 0 }) a.steps.now) c.in_hand-hand.ensures.held
+    ∙ ap (λ (t : Answered Cost ℕ). given q.rules a.start.now t a.steps.now) (sym (no_expansion q (apart q l c.requires differ) c.if-a-eq0.true))
 
 pub returns : goal.returns
 returns c =
     let a = c.args in
-    let q = asked (ruled a.cfg a.kinds.now) a.prices.now a.start.now a.goal.now (allowances a.a.max_expansions a.a.states_without a.a.states_with) in
+    let q = asked (rules_of a.rules) a.prices.now a.start.now a.goal.now (allowances a.a.max_expansions a.a.states_without a.a.states_with) in
+    let l = lent (length a.steps.now) (length a.nodes.now) (length a.heads.now) (length a.list.now) in
+    let differ : a.start.now ≡ a.goal.now → ⊥ = search rules in
     c.with_search.ensures
-    ∙ ap (λ (h : Held). given (ruled a.cfg a.kinds.now) a.start.now (searched gas_bytes (problem_of (question_of q) c.args.start.now) (listed c.args.prices.now) 50 h.bound (plan_held h) q.allowance) a.steps.now) (held_is_lem (before q) _ c.in_hand-hand.new.steps c.in_hand-hand.result c.in_hand-hand.ensures.0)
-    ∙ ap (λ (t : Answered Cost ℕ). given (ruled a.cfg a.kinds.now) a.start.now t a.steps.now) (sym (by_search q (sym c.same_window.ensures ∙ c.if-same_window.false) c.if-a-eq0.false))
+    ∙ ap (λ (h : Held). given q.rules a.start.now (searched gas_bytes (problem_of (question_of q) a.start.now) (listed a.prices.now) 50 h.bound (plan_held h) q.allowance) a.steps.now) c.in_hand-hand.ensures.held
+    ∙ ap (λ (t : Answered Cost ℕ). given q.rules a.start.now t a.steps.now) (sym (by_search q (apart q l c.requires differ) c.if-a-eq0.false))

@@ -1,68 +1,88 @@
 -- The top key taken off, and the step tested on what is below.
-use Rattle.std.proofs.Common.{sym, ap, arith}
-use Rattle.std.proofs.Math.Path.{◌≡◌, ◌∙◌}
-use Prim.Native.Nat.{ℕ, ◌-◌, ◌<◌}
-use Rattle.std.proofs.Math.Bool.{◌&&◌}
-use Rattle.std.specs.Prelude.{List, reverse, eqb, length, take, drop}
-use Rattle.std.proofs.Math.Option.{some, none}
-use Rattle.std.proofs.Math.ListN.{get_or}
-use Rattle.window.specs.Keys.{keys_of, held_first}
-use Rattle.replay.specs.Machine.{ruled, allows}
-use Rattle.replay.specs.Laws.{ready}
+use Rattle.std.proofs.Common.{sym, ap, arith, ◌∙◌, ne_eqb, eq-eqb}
+use Rattle.std.specs.Prelude.{ℕ, ◌≡◌, ◌≤◌, ◌<◌, ◌-◌, Bool, ◌&&◌, List, Some, None, true, false, length, get_or, drop, eqb}
 use Rattle.costs.specs.Choice.{◌if◌otherwise◌}
+use Rattle.costs.specs.declared.Step.{Step}
+use Rattle.window.specs.declared.PackedState.{PackedState}
+use Rattle.window.specs.Keys.{keys_of, Window, held_first}
+use Rattle.replay.specs.Machine.{Rules, allows}
+use Rattle.replay.specs.Laws.{ready}
 use Rattle.rewind.specs.Walk.{place, put_by, ungrown}
-use Rattle.rewind.specs.Code.{Below, below_of, ungrown_none, ungrown_some}
-use Rattle.rewind.proofs.take_off.Lts
-use Rattle.rewind.proofs.take_off.Reads
-use Rattle.rewind.proofs.take_off.Tie
+use Rattle.rewind.specs.Code.{Below, below_of, ungrown_some}
 use Rattle.rewind.proofs.take_off.Goals as goal
 
--- there is a top key
-some_key : (c : Lts.Else1 Tie.the-claims Reads.Pre Reads.Post) → 0 < length (keys_of c.args.state)
-some_key c = omega (arith, c.len-n.ensures _ c.requires.1, c.if-n-eq0.false)
+module _ (q : Rules) (step : Step) (state : PackedState) (below n : ℕ) (h : Window state) (len : n ≡ length (keys_of state)) (some : 1 ≤ n) (e : below ≡ n - 1) where
+  -- there is a top key
+  some_key : 0 < length (keys_of state)
+  some_key = omega arith
 
--- the step back, by the test and the top key
-put_off : (c : Lts.Else1 Tie.the-claims Reads.Pre Reads.Post) (popped : List ℕ) →
-    let a = c.args in let q = ruled a.cfg a.kinds.now in
-    let w = keys_of a.state in
-    ungrown q a.step w (reverse (take a.left popped)) ≡ (some (place (drop 1 w) (reverse (take a.left popped))) if allows q a.step (length w - 1) && eqb (put_by a.step (drop 1 w)) (get_or w 0 0) otherwise none)
-put_off c popped =
-    let a = c.args in
-    let n : length (keys_of a.state) ≡ 0 → ⊥ = λ e. omega (arith, some_key c, e) in
-    ungrown_some (ruled a.cfg a.kinds.now) a.step (keys_of a.state) (reverse (take a.left popped)) n
+  -- the step back, by the test and the top key
+  put_off : (left : List ℕ) → ungrown q step (keys_of state) left
+      ≡ (Some (place (drop 1 (keys_of state)) left) if allows q step below && eqb (put_by step (drop 1 (keys_of state))) (get_or (keys_of state) 0 0) otherwise None)
+  put_off left =
+      let z : length (keys_of state) ≡ 0 → ⊥ = λ k. omega (arith, k) in
+      let b : length (keys_of state) - 1 ≡ below = omega arith in
+      ungrown_some q step (keys_of state) left z ∙ ap (λ (m : ℕ). Some (place (drop 1 (keys_of state)) left) if allows q step m && eqb (put_by step (drop 1 (keys_of state))) (get_or (keys_of state) 0 0) otherwise None) b
 
--- what is below it
-rest : (c : Lts.After-pop Tie.the-claims Reads.Pre Reads.Post) → Below c.args.state c.pop-below.result
-rest c =
-    below_of _ _ (c.pop-below.ensures _ _ (held_first _ _ c.requires.1 (some_key c.before.before)))
+  module _ (t : PackedState) (b : Below state t) (ok : Bool) (g : ok ≡ allows q step below) where
+    tested : length (keys_of t) ≡ below
+    tested = omega (arith, b.len)
 
--- the test was of the length below
-tested : (c : Lts.After-allowed Tie.the-claims Reads.Pre Reads.Post) → allows (ruled c.args.cfg c.args.kinds.now) c.args.step (length (keys_of c.args.state) - 1) ≡ c.allowed.result
-tested c =
-    ap (λ (n : ℕ). allows (ruled c.args.cfg c.args.kinds.now) c.args.step (n - 1)) (sym (c.len-n.ensures _ c.requires.1)) ∙ sym c.allowed.ensures
+    off : (put top : ℕ) (left : List ℕ) → ok ≡ true → put ≡ put_by step (keys_of t) → top ≡ get_or (keys_of state) 0 0 → put ≡ top → Some (place (keys_of t) left) ≡ ungrown q step (keys_of state) left
+    off put top left o p k f =
+        let v : eqb (put_by step (keys_of t)) (get_or (keys_of state) 0 0) ≡ true = eq-eqb _ _ (sym p ∙ f ∙ k) in
+        sym (put_off left ∙ rw (sym g ∙ o, ← b.keys, v))
 
-pub returns-then-n-eq0 : goal.returns-then-n-eq0
-returns-then-n-eq0 c =
-    (λ popped. sym (ungrown_none (ruled c.args.cfg c.args.kinds.now) c.args.step (keys_of c.args.state) (reverse (take c.args.left popped)) (sym (c.len-n.ensures _ c.requires.1) ∙ c.if-n-eq0.true)), c.requires.1, omega arith)
+    not_put : (put top : ℕ) (left : List ℕ) → ok ≡ true → put ≡ put_by step (keys_of t) → top ≡ get_or (keys_of state) 0 0 → (put ≡ top → ⊥) → None ≡ ungrown q step (keys_of state) left
+    not_put put top left o p k f =
+        let v : eqb (put_by step (keys_of t)) (get_or (keys_of state) 0 0) ≡ false = ne_eqb _ _ (λ z. f (p ∙ z ∙ sym k)) in
+        sym (put_off left ∙ rw (sym g ∙ o, ← b.keys, v))
+
+    not_allowed : (left : List ℕ) → ok ≡ false → None ≡ ungrown q step (keys_of state) left
+    not_allowed left o = sym (put_off left ∙ rw (sym g ∙ o))
 
 pub get-top-requires : goal.get-top-requires
-get-top-requires c = (_, c.requires.1, some_key c.before)
+get-top-requires c =
+    let n = c.len.ensures _ c.args.at.held in
+    (_, c.args.at.held, omega arith)
 
-pub pop-below-requires : goal.pop-below-requires
-pop-below-requires c = (_, (_, held_first _ _ c.requires.1 (some_key c.before.before)))
+pub pop-state-requires : goal.pop-state-requires
+pop-state-requires c =
+    let n = c.len.ensures _ c.args.at.held in
+    (_, (_, held_first _ _ c.args.at.held (omega arith)))
+
+pub returns-then-not-allows : goal.returns-then-not-allows
+returns-then-not-allows c =
+    let h = c.args.at.held in
+    let n = c.len.ensures _ h in
+    let b = below_of _ _ (c.pop-state.ensures _ _ (held_first _ _ h (omega arith))) in
+    not_allowed _ _ _ _ _ h n c.in_ok-below.ensures.0 c.in_ok-below.ensures.1 _ b _ c.allows.ensures _ c.if-not-allows.true
 
 pub key_put-key-requires : goal.key_put-key-requires
 key_put-key-requires c =
-    let b = rest c.before.before.before in
-    (b.held, ready _ _ _ c.requires.2 (ap (allows _ _) b.len ∙ tested c.before.before ∙ c.if-allowed.true))
+    let h = c.args.at.held in
+    let n = c.len.ensures _ h in
+    let b = below_of _ _ (c.pop-state.ensures _ _ (held_first _ _ h (omega arith))) in
+    let l : length (keys_of c.pop-state.result) ≡ c.in_ok-below.below = omega (arith, b.len) in
+    (b.held, ready _ _ _ c.args.rules.short (ap (allows _ _) l ∙ sym c.allows.ensures ∙ c.if-not-allows.false))
 
-pub returns-then-allowed : goal.returns-then-allowed
-returns-then-allowed c =
-    let b = rest c.before.before.before.before in
-    let t = c.get-top.ensures _ c.requires.1 (some_key c.before.before.before.before.before.before) in
-    (λ popped. sym (put_off c.before.before.before.before.before.before popped ∙ rw (tested c.before.before.before ∙ c.if-allowed.true, ← b.keys, ← t, ← c.key_put-key.ensures)), b.held, omega arith)
+pub returns-then-key-top : goal.returns-then-key-top
+returns-then-key-top c =
+    let h = c.args.at.held in
+    let n = c.len.ensures _ h in
+    let f : 0 < length (keys_of c.args.at.state) = omega arith in
+    let b = below_of _ _ (c.pop-state.ensures _ _ (held_first _ _ h f)) in
+    not_put _ _ _ _ _ h n c.in_ok-below.ensures.0 c.in_ok-below.ensures.1 _ b _ c.allows.ensures _ _ _ c.if-not-allows.false c.key_put-key.ensures (c.get-top.ensures _ h f) c.if-key-top.true
 
-pub returns-else-allowed : goal.returns-else-allowed
-returns-else-allowed c =
-    let b = rest c.before.before.before in
-    (λ popped. sym (put_off c.before.before.before.before.before popped ∙ rw (tested c.before.before ∙ c.if-allowed.false)), b.held, omega arith)
+pub invariant_of-result : goal.invariant_of-result
+invariant_of-result c =
+    let n = c.len.ensures _ c.args.at.held in
+    record { held = (below_of _ _ (c.pop-state.ensures _ _ (held_first _ _ c.args.at.held (omega arith)))).held; keyed = c.args.at.keyed }
+
+pub returns : goal.returns
+returns c =
+    let h = c.args.at.held in
+    let n = c.len.ensures _ h in
+    let f : 0 < length (keys_of c.args.at.state) = omega arith in
+    let b = below_of _ _ (c.pop-state.ensures _ _ (held_first _ _ h f)) in
+    off _ _ _ _ _ h n c.in_ok-below.ensures.0 c.in_ok-below.ensures.1 _ b _ c.allows.ensures _ _ _ c.if-not-allows.false c.key_put-key.ensures (c.get-top.ensures _ h f) c.if-key-top.false

@@ -1,27 +1,42 @@
--- What is left of the walk decides: the loop's invariant.
-use Rattle.std.proofs.Common.{sym, arith}
-use Rattle.std.proofs.Math.Option.{none}
-use Rattle.std.proofs.lemmas.Bool.{not-true, not-false}
-use Rattle.rewind.specs.Code.{walking_first, walking_turn, walking_next, walking_last}
+-- What is left of the walk decides.
+use Rattle.std.proofs.Common.{sym, ap, ◌∙◌, arith, eqb-true}
+use Rattle.std.proofs.lemmas.Bool.{eqb-false}
+use Rattle.std.proofs.lemmas.Grind.{common_steps}
+use Rattle.std.specs.Prelude.{◌≡◌, [], ◌∷◌, ◌++◌, None}
+use Rattle.std.specs.Option.{option_map}
+use Rattle.std.specs.Slice.Iter.{iter_rest}
+use Rattle.std.specs.Iterator.Adapters.{rev_source}
+use Rattle.rewind.specs.Held.{back_of}
+use Rattle.window.specs.Keys.{keys_of}
+use Rattle.rewind.specs.Code.{walking_first, walking_turn, walking_next, walking_last, none_left, some_left}
 use Rattle.rewind.proofs.walk_back.Goals as goal
 
-pub loop-i-init : goal.loop-i-init
-loop-i-init c = walking_first _ _ _ _ c.requires.1
+pub loop-code-init : goal.loop-code-init
+loop-code-init c =
+    let e : iter_rest (rev_source c.into_iter-code-iterator.result) ≡ c.args.steps.now = grind (arith, common_steps) in
+    rw e (walking_first _ c.args.steps.now c.args.end)
 
-pub step_back-a-requires : goal.step_back-a-requires
-step_back-a-requires c =
-    (c.requires.0, c.loop-i.invariant.held, c.requires.2, c.requires.3, c.loop-i.invariant.keys)
+pub loop-code-preserved : goal.loop-code-preserved
+loop-code-preserved c =
+    let front = iter_rest (rev_source c.next.new.self) in
+    let e : iter_rest (rev_source c.loop-code.code-iterator) ≡ front ++ c.in-Some.field-0.now ∷ [] = grind (arith, common_steps) in
+    walking_next _ _ _ _ _ _ front _ c.loop-code.invariant e c.in_ok-at.at (sym (ap (option_map back_of) c.in_ok-at.was) ∙ c.step_back.ensures)
 
-pub returns-then-not-a : goal.returns-then-not-a
-returns-then-not-a c =
-    let e = not-true c.step_back-a.result.ok c.if-not-a.true in
-    (rw e (sym (walking_turn _ _ _ _ _ _ _ c.loop-i.invariant none c.loop-i-test.true (rw e at c.step_back-a.ensures.0))), c.step_back-a.ensures.1)
+pub returns-in_err-at-clause-start : goal.returns-in_err-at-clause-start
+returns-in_err-at-clause-start c =
+    let front = iter_rest (rev_source c.next.new.self) in
+    let e : iter_rest (rev_source c.loop-code.code-iterator) ≡ front ++ c.in-Some.field-0.now ∷ [] = grind (arith, common_steps) in
+    let k : c.from_residual.result ≡ None = grind (arith, common_steps) in
+    rw k (sym (walking_turn _ _ _ _ _ _ front _ c.loop-code.invariant e None (sym (ap (option_map back_of) c.in_err-at.was) ∙ c.step_back.ensures)))
 
-pub loop-i-preserved : goal.loop-i-preserved
-loop-i-preserved c =
-    let e = not-false c.step_back-a.result.ok c.if-not-a.false in
-    walking_next _ _ _ _ _ _ _ c.loop-i.invariant _ _ c.loop-i-test.true (rw e at c.step_back-a.ensures.0) c.step_back-a.ensures.1 c.step_back-a.ensures.2
+pub returns-then-is_empty-clause-start : goal.returns-then-is_empty-clause-start
+returns-then-is_empty-clause-start c =
+    let e : iter_rest (rev_source c.loop-code.code-iterator) ≡ [] = grind (arith, common_steps) in
+    let at = c.loop-code.at in
+    sym (walking_last _ _ _ _ _ _ c.loop-code.invariant e ∙ none_left (keys_of at.state) at.left.now (eqb-true _ _ (sym c.is_empty.ensures ∙ c.if-is_empty.true)))
 
-pub returns : goal.returns
-returns c =
-    (sym (walking_last _ _ _ _ _ _ _ c.loop-i.invariant (omega arith)), c.loop-i.invariant.held)
+pub returns-else-is_empty-clause-start : goal.returns-else-is_empty-clause-start
+returns-else-is_empty-clause-start c =
+    let e : iter_rest (rev_source c.loop-code.code-iterator) ≡ [] = grind (arith, common_steps) in
+    let at = c.loop-code.at in
+    sym (walking_last _ _ _ _ _ _ c.loop-code.invariant e ∙ some_left (keys_of at.state) at.left.now (eqb-false _ _ (sym c.is_empty.ensures ∙ c.if-is_empty.false)))

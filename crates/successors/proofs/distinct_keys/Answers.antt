@@ -1,20 +1,32 @@
-use Rattle.successors.specs.Kept.{keeps_none, keeps_few, keeps_on, keeps_all}
-use Rattle.std.specs.Prelude.{refl}
-use Rattle.std.proofs.Common.{arith}
+use Rattle.std.specs.Prelude.{◌≡◌, length}
+use Rattle.std.proofs.Common.{◌∙◌, sym, arith, lit<}
+use Rattle.successors.specs.Parts.{up_to}
+use Rattle.successors.specs.Successors.{firsts}
+use Rattle.successors.specs.Firsts.{gathered_few, gathered_new, gathered_again}
 use Rattle.successors.proofs.distinct_keys.Goals as goal
+use Rattle.successors.proofs.distinct_keys.Goals.{then-not-contains, else-not-contains}
 
-pub loop-i-init : goal.loop-i-init
-loop-i-init c = (omega arith, keeps_none _ _ c.none-all.ensures.0 c.none-all.ensures.1)
+pub loop-key-init : goal.loop-key-init
+unfolding up_to
+loop-key-init c = c.new-keys.ensures
 
-pub with_key-all-requires : goal.with_key-all-requires
-with_key-all-requires c =
-    let l = c.loop-i in
-    omega (arith, c.requires, keeps_few _ _ _ l.invariant.1)
+pub push-requires : goal.push-requires
+push-requires c =
+    let l = c.loop-key in
+    (lit< tt, omega (arith, c.requires, gathered_few c.args.list.now l.keys.items l.key-index c.loop-key-test.true l.invariant))
 
-pub loop-i-preserved : goal.loop-i-preserved
-loop-i-preserved c =
-    let l = c.loop-i in
-    (omega arith, keeps_on _ _ _ _ _ _ c.is_first-test.ensures refl c.with_key-all.ensures.0 c.with_key-all.ensures.1 l.invariant.1)
+pub loop-key-preserved : goal.loop-key-preserved
+loop-key-preserved c =
+    let l = c.loop-key in
+    let n = c.args.list.now in
+    let there = rw c.deref.ensures.0 at c.contains.ensures.value in
+    elim c.if-not-contains.branch [
+      | then-not-contains w ↦ rw (w.keys-is, w.push.ensures.items) (gathered_new n l.keys.items l.key-index c.loop-key-test.true l.invariant (sym there ∙ w.if-not-contains.true))
+      | else-not-contains w ↦ rw w.keys-is (gathered_again n l.keys.items l.key-index c.loop-key-test.true l.invariant (sym there ∙ w.if-not-contains.false))
+    ]
 
 pub returns : goal.returns
-returns c = keeps_all _ _ _ c.loop-i.invariant.0 c.loop-i-test.false c.loop-i.invariant.1
+unfolding firsts
+returns c =
+    let all : length c.args.list.now ≡ c.loop-key.key-index = omega (arith, c.loop-key-test.false) in
+    rw all c.loop-key.invariant

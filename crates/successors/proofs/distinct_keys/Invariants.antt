@@ -1,10 +1,8 @@
-use Prim.Native.Nat.{◌≤◌, ◌-◌}
-use Rattle.successors.specs.Kept.{Keeps}
-use Rattle.std.specs.Prelude.{length}
+-- The keys so far, each once.
+use Rattle.std.specs.Prelude.{◌≡◌}
+use Rattle.successors.specs.Parts.{up_to}
+use Rattle.successors.specs.Successors.{first_at}
 use Rattle.successors.proofs.distinct_keys.Given as goal
 
-abbrev pub invariant-loop-i : goal.invariant-loop-i
-invariant-loop-i l = (l.i ≤ length l.list) × Keeps l.list l.i l.all
-
-abbrev pub decreases-loop-i : goal.decreases-loop-i
-decreases-loop-i l = length l.list - l.i
+abbrev pub invariant-loop-key : goal.invariant-loop-key
+invariant-loop-key l = l.keys.items ≡ up_to (first_at l.list) l.key-index

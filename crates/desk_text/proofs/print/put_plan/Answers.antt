@@ -1,6 +1,5 @@
-use Rattle.std.proofs.Common.{rules}
-use Rattle.desk_text.specs.Put.{put_plan}
+use Rattle.desk_text.proofs.Printing.{put_then}
 use Rattle.desk_text.proofs.print.put_plan.Goals as goal
 
 pub returns : goal.returns
-returns c = search (rules, put_plan)
+returns c = put_then (rw (c.as_str.ensures.value, c.number_line-line.ensures) at c.put-next.ensures) c.put_steps.ensures

@@ -1,11 +1,11 @@
--- The steps so far stand in the buffer, and what is left decides: the loop's invariant.
-use Prim.Native.Nat.{◌-◌}
-use Rattle.std.specs.Prelude.{length}
-use Rattle.desk_text.specs.Put.{StepsSoFar}
+-- The steps so far stand in the buffer, and there is room for the others.
+use Rattle.std.proofs.Common.{◌+◌, ◌*◌, ◌≤◌, take}
+use Rattle.desk_text.specs.Text.{steps_text}
+use Rattle.desk_text.specs.Put.{Put}
 use Rattle.desk_text.proofs.print.put_steps.Given as goal
 
-abbrev pub invariant-loop-i : goal.invariant-loop-i
-invariant-loop-i l = StepsSoFar l.initial.out l.at l.steps l.out l.next l.i
-
-abbrev pub decreases-loop-i : goal.decreases-loop-i
-decreases-loop-i l = length l.steps - l.i
+abbrev pub invariant-loop-code : goal.invariant-loop-code
+invariant-loop-code l = record {
+  so_far : Put l.initial.out l.at (steps_text (take l.code-index l.steps)) l.out l.next;
+  room : l.next ≤ l.at + 29 * l.code-index;
+}

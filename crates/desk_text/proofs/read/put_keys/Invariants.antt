@@ -1,10 +1,7 @@
-use Prim.Native.Nat.{◌-◌}
-use Rattle.std.specs.Prelude.{length}
-use Rattle.desk_text.specs.Feeding.{KeysSoFar}
+-- The keys' bytes so far stand over the list's first places.
+use Rattle.std.proofs.Common.{◌≡◌, map, take}
+use Rattle.desk_text.specs.Question.{key_of, over}
 use Rattle.desk_text.proofs.read.put_keys.Given as goal
 
 abbrev pub invariant-loop-i : goal.invariant-loop-i
-invariant-loop-i l = KeysSoFar l.numbers l.initial.keys l.keys l.i
-
-abbrev pub decreases-loop-i : goal.decreases-loop-i
-decreases-loop-i l = length l.numbers - l.i
+invariant-loop-i l = l.keys ≡ over (map key_of (take l.i l.numbers)) l.initial.keys

@@ -1,13 +1,8 @@
 use Rattle.std.proofs.Common.{rules}
-use Rattle.desk_text.specs.Tables.{fill_start, fill_more, fill_end, desk_kinds}
+use Rattle.desk_text.specs.Tables.{desk_kind, desk_kinds}
+use Rattle.desk_text.proofs.Filled.{made_table}
 use Rattle.desk_text.proofs.tables.kinds.Goals as goal
-
-pub loop-i-init : goal.loop-i-init
-loop-i-init c = search (rules, fill_start)
-
-pub loop-i-preserved : goal.loop-i-preserved
-loop-i-preserved c = search (rules, fill_more)
 
 pub returns : goal.returns
 unfolding desk_kinds
-returns c = search (rules, fill_end)
+returns c = made_table _ _ _ 64 desk_kind c.from_fn.ensures.items (λ p q i r b k. search rules)

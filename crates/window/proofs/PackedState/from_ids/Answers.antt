@@ -1,47 +1,24 @@
--- `window::PackedState::from_ids` meets its contract. The invariant: the keys from i on are held.
-use Rattle.std.proofs.Math.Path.{◌≡◌}
-use Rattle.std.specs.Prelude.{refl, [], drop}
-use Rattle.std.proofs.Common.{subst, arith, length-drop}
-use Prim.Native.Nat.{ℕ, zero, ◌-◌}
-use Rattle.std.proofs.Math.Nat.{le_refl}
-use Rattle.std.proofs.Math.Seq.{drop-length}
-use Rattle.window.specs.Laws.{key_lt}
+use Rattle.std.proofs.Common.{◌≡◌, ◌∷◌, ◌++◌, [], length, arith, refl, sym, ap, subst, rules, length-append, append-nil}
+use Rattle.std.proofs.lemmas.Grind.{common_steps}
+use Rattle.std.specs.Iterator.Adapters.{rev_source}
+use Rattle.std.specs.Slice.Iter.{iter_rest}
+use Rattle.window.specs.Pack.{Keys}
 use Rattle.window.specs.State.{Held, whole}
-use Rattle.window.proofs.Slots.{back}
+use Rattle.window.specs.Laws.{keys_behind}
 use Rattle.window.proofs.PackedState.from_ids.Goals as goal
 
+-- the window of no keys
 empty : Held 6 (record { hi = 0; lo = 1 }) []
 unfolding whole
 empty = record { keys = tt; value = refl }
 
-pub loop-i-init : goal.loop-i-init
-loop-i-init c = (le_refl _, rw (drop-length c.args.ids.now) empty)
-
-pub overflow_sub-i : goal.overflow_sub-i
-overflow_sub-i c = omega arith
-
-pub bounds-ids-i : goal.bounds-ids-i
-bounds-ids-i c = omega arith
+pub loop-key-init : goal.loop-key-init
+loop-key-init c = ([], search (rules, append-nil), empty)
 
 pub push-s-requires : goal.push-s-requires
 push-s-requires c =
-    let ids = c.args.ids.now in
-    let at = c.loop-i in (
-      (drop at.i ids, at.invariant.1, omega (arith, length-drop at.i ids)),
-      key_lt 6 ids (at.i - 1) c.requires.0,
-    )
-
-pub loop-i-smaller : goal.loop-i-smaller
-loop-i-smaller c = omega arith
-
-pub loop-i-preserved : goal.loop-i-preserved
-loop-i-preserved c =
-    let ids = c.args.ids.now in
-    let at = c.loop-i in
-    (omega arith, rw (back ids at.i c.loop-i-test.true at.invariant.0) (c.push-s.ensures (drop at.i ids) at.invariant.1))
-
-pub returns : goal.returns
-returns c =
-    let ids = c.args.ids.now in
-    let z : c.loop-i.i ≡ zero = omega arith in
-    subst (λ (j : ℕ). Held 6 c.loop-i.s (drop j ids)) z c.loop-i.invariant.1
+    let v = c.loop-key.invariant in
+    let rest = iter_rest (rev_source c.next.new.self) in
+    let e : rest ++ (c.in-Some.field-0.now ∷ v.0) ≡ c.args.ids.now = grind (arith, common_steps) in
+    let k : Keys 6 (c.in-Some.field-0.now ∷ v.0) = keys_behind 6 rest _ (subst (Keys 6) (sym e) c.requires.0) in
+    ((v.0, v.2, omega (arith, ap length e, length-append rest (c.in-Some.field-0.now ∷ v.0))), k.0)

@@ -1,0 +1,3 @@
+pub mod Filled
+pub mod Reading
+pub mod Printing

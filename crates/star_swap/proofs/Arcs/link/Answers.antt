@@ -1,0 +1,17 @@
+-- From the last slot up, each misplaced slot goes in front of its list.
+use Rattle.std.specs.Prelude.{◌≡◌}
+use Rattle.std.proofs.Common.{arith}
+use Rattle.star_swap.specs.StarCode.{linked_begin, linked_right, linked_wrong}
+use Rattle.star_swap.proofs.Arcs.link.Goals as goal
+
+pub loop-slot-init : goal.loop-slot-init
+loop-slot-init c = (rw c.requires.empty (linked_begin _ _), c.requires.pair.1)
+
+pub loop-slot-preserved-then-cur-slot : goal.loop-slot-preserved-then-cur-slot
+loop-slot-preserved-then-cur-slot c = (linked_wrong _ _ c.requires.pair.0 _ _ c.loop-slot.invariant.1 (omega arith) c.loop-slot.invariant.0 c.if-cur-slot.true, omega arith)
+
+pub loop-slot-preserved : goal.loop-slot-preserved
+loop-slot-preserved c = (linked_right _ _ c.requires.pair.0 _ _ c.loop-slot.invariant.1 (omega arith) c.loop-slot.invariant.0 c.if-cur-slot.false, omega arith)
+
+pub returns : goal.returns
+returns c = let e : c.loop-slot.slot ≡ 1 = omega arith in rw e at c.loop-slot.invariant.0

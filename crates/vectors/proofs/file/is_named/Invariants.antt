@@ -1,9 +1,0 @@
--- The measure is what is left of the eight bytes.
-use Rattle.std.proofs.Common.{◌-◌, ◌≤◌}
-use Rattle.vectors.proofs.file.is_named.Given as goal
-
-abbrev pub invariant-loop-i : goal.invariant-loop-i
-invariant-loop-i l = l.i ≤ 8
-
-abbrev pub decreases-loop-i : goal.decreases-loop-i
-decreases-loop-i l = 8 - l.i
