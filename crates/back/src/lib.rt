@@ -1,4 +1,5 @@
 // Reads the plan of the goal back from the node list into a lent list of step codes: counts the steps, then writes them from the end.
+// The lent lists stand apart: a struct of `&mut`s was tried in lists, and its contracts had to say more.
 #![tactic(auto)]
 
 ghost use Rattle.std.specs.Prelude.{◌≡◌, ℕ, ◌≤◌, Some, length};

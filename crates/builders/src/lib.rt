@@ -148,7 +148,7 @@ impl Work {
         self.act(Step::Pop);
     }
 
-    // The first surplus key from the top goes, until none is left; nothing where it is out of reach.
+    // The first surplus key from the top goes, until none is left; nothing where it is out of reach. The goal alone, here and below, as in `tail_plan`.
     fn trim(&mut self, goal: &[u8], swap_max: usize) -> Option<()>
         requires { Fit self.old × Window goal.now }
         ensures trimmed { tried result self.new ≡ trimmed (length self.old.window) swap_max goal.now self.old }
@@ -191,6 +191,7 @@ impl Work {
     }
 
     // One key more: a copy from the highest place, or the key made; nothing where the window is full.
+    // A key is a byte of a list that C lends and no type of its own, so that it is below 64 is asked.
     fn add_key(&mut self, key: u8, rules: Rules<'_>) -> Option<()>
         requires { Room self.old × (key < 64) }
         ensures added { tried result self.new ≡ added (rules_of rules.entry) key self.old }
@@ -208,7 +209,7 @@ impl Work {
         }
     }
 
-    // So many keys more.
+    // So many keys more. That the key is below 64 is asked as in `add_key`.
     fn add_times(&mut self, n: usize, key: u8, rules: Rules<'_>) -> Option<()>
         requires { Room self.old × (key < 64) }
         ensures added { tried result self.new ≡ added_times n (rules_of rules.entry) key self.old }
@@ -221,10 +222,11 @@ impl Work {
     }
 
     // How many of a key are missing.
+    #[tactic(auto, using(costs::specs::Laws::count_of_filter))]
     fn missing(&self, key: u8, want: usize) -> usize
         ensures { result ≡ want - count_of key self.now.window }
     {
-        want.saturating_sub(costs::count_of(&self.keys(), key))
+        want.saturating_sub(costs::count_of(&self.keys(), &key))
     }
 
     // The missing keys in rising order.
@@ -256,7 +258,7 @@ impl Work {
         Some(())
     }
 
-    // The steps over the first places of a list; how many.
+    // The steps over the first places of a list, the caller's as in `tail_plan`; how many.
     fn give(&self, steps: &mut [u16]) -> usize
         requires { 128 ≤ length steps.old }
         ensures given { Over self.now.steps result steps.old steps.new }
@@ -296,7 +298,7 @@ fn next_wanted(goal: &[u8], from: u8) -> Option<u8>
     goal.iter().copied().filter(|&key| from <= key).min()
 }
 
-// Delete-tail's plan over the first places of a list; how many steps.
+// Delete-tail's plan over the first places of a list, the caller's as in `tail_plan`; how many steps.
 fn tail(start: &[u8], goal: &[u8], steps: &mut [u16]) -> usize
     requires { Window start.now × IsTail (length start.now) start.now goal.now × (128 ≤ length steps.old) }
     ensures given { Over (delete_tail start.now goal.now) result steps.old steps.new }
@@ -357,6 +359,7 @@ pub fn delete_tail(start: &[u8], goal: &[u8], swap_max: usize, steps: &mut [u16]
 
 // Delete-tail as a builder of a window that the planner has accepted: how many steps of the list its plan is, if it has one. The list is lent,
 // since a moved `ArrayVec` of 128 steps took the planner above its bar of speed.
+// A caller's list may be longer, and it may have no rules and prices: an array and replay's `Task` would ask more of it.
 pub fn tail_plan(start: &[u8], goal: &[u8], swap_max: usize, steps: &mut [u16]) -> Option<usize>
     requires { Window start.now × Window goal.now × (128 ≤ length steps.old) }
     ensures { Built (tail_plan swap_max start.now goal.now) result steps.old steps.new }
@@ -367,7 +370,7 @@ pub fn tail_plan(start: &[u8], goal: &[u8], swap_max: usize, steps: &mut [u16]) 
     Some(tail(start, goal, steps))
 }
 
-// Dup-and-star, in the same way.
+// Dup-and-star, in the same way; it reads no prices, which a `Task` would ask for.
 pub fn dup_and_star(start: &[u8], goal: &[u8], rules: Rules<'_>, steps: &mut [u16]) -> Option<usize>
     requires { Window start.now × Window goal.now × (128 ≤ length steps.old) }
     ensures { Built (steps_of (dup_and_star (rules_of rules.entry) start.now goal.now)) result steps.old steps.new }

@@ -23,9 +23,6 @@ any_over_turn limit l i h = rw (drop_turn l i h)
 pub count_of_turn : (k : ℕ) (l : List ℕ) (i : ℕ) → i < length l → count_of k (drop i l) ≡ (suc (count_of k (drop (i + 1) l)) if eqb (get_or l i 0) k otherwise count_of k (drop (i + 1) l))
 count_of_turn k l i h = rw (drop_turn l i h)
 
-pub cost_from_turn : (prices : List ℕ) (sum : Cost) (l : List ℕ) (i : ℕ) → i < length l → cost_from prices sum (drop i l) ≡ cost_from prices (plus sum (price_of prices (decoded (get_or l i 0)))) (drop (i + 1) l)
-cost_from_turn prices sum l i h = rw (drop_turn l i h)
-
 pub or_left : (a b : Bool) → (a || b) ≡ false → a ≡ false
 or_left true b h = h
 or_left false b h = refl

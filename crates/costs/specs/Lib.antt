@@ -7,3 +7,4 @@ pub mod Packed
 pub mod Laws
 pub mod Kind
 pub mod Refusal
+pub mod Sum

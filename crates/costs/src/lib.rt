@@ -1,13 +1,17 @@
 // Costs, stack steps, the price list, the checks of the two tables, and why a call refuses its input.
 #![tactic(auto)]
 
-ghost use Rattle.std.specs.Prelude.{◌≡◌, ◌≤◌, Some, get_or, length};
+ghost use Rattle.std.specs.Prelude.{◌≡◌, ◌≤◌, Bool, false, ◌||◌, Option, Some, get_or, length};
 ghost use Rattle.std.specs.Result.{result_ok};
+ghost use Rattle.std.specs.Fn.{FnReturnsAt};
+ghost use Rattle.std.specs.List.{filter, fold};
 ghost use Rattle.costs.specs.Cost.{none, plus, no_more};
 ghost use Rattle.costs.specs.Step.{decoded, code_of, pair_of};
 ghost use Rattle.costs.specs.Kind.{kind_of};
-ghost use Rattle.costs.specs.Table.{any_over, count_of, kinds_fault, prices_fault};
+ghost use Rattle.costs.specs.Table.{any_over, kinds_fault, prices_fault, Tests};
+ghost use Rattle.costs.specs.declared.Step.{Step};
 ghost use Rattle.costs.specs.Price.{price_of, cost_for_steps};
+ghost use Rattle.costs.specs.Sum.{Gives, add_price};
 ghost use Rattle.costs.specs.Packed.{cost_of};
 ghost use Rattle.costs.specs.Refusal.{number_of, place_of};
 
@@ -18,8 +22,10 @@ pub struct Cost {
     pub bytes: u32,
 }
 
-#[derive(Clone, Copy, PartialEq, Eq)]
+// A step. `Pop` fills the places of an `ArrayVec` that hold none.
+#[derive(Clone, Copy, PartialEq, Eq, Default)]
 pub enum Step {
+    #[default]
     Pop,
     Dup(u8),
     Swap(u8),
@@ -190,30 +196,43 @@ impl Refusal {
     }
 }
 
-// Whether some byte of the list is over the limit. A fold, since `any` branches at each byte.
+// Whether some entry of a list passes a test. All are looked at, since `any` branches at each entry.
+fn any_entry<T: Copy, F: Fn(T) -> bool>(list: &[T], test: F) -> bool
+    ghost f: { T → Bool }
+    requires { Tests (F.pre test) (F.post test) f }
+    ensures { result ≡ fold (λ any x. any || f x) false list.now }
+{
+    let mut any = false;
+    for &entry in list {
+        any |= test(entry);
+    }
+    any
+}
+
+// Whether some byte of the list is over the limit.
 pub fn any_over(list: &[u8], limit: u8) -> bool
     ensures { result ≡ any_over limit list.now }
 {
-    list.iter().fold(false, |over, &byte| over | (limit < byte))
+    any_entry(list, |byte| limit < byte)
 }
 
-// How many bytes of a list are k.
-pub fn count_of(list: &[u8], k: u8) -> usize
-    ensures { result ≡ count_of k list.now }
+// How many entries of a list, bytes or step codes, are k. A sum, since `filter` branches at each entry.
+pub fn count_of<T: PartialEq>(list: &[T], k: &T) -> usize
+    ensures { result ≡ length (filter (λ x. T.eq x k.now) list.now) }
 {
     let mut n = 0;
-    for &byte in list {
-        n += usize::from(byte == k);
+    for entry in list {
+        n += usize::from(entry == k);
     }
     n
 }
 
 // Refusal 4, of the kinds.
-#[tactic(auto, unfolding(crate::specs::Table::kinds_fault))]
+#[tactic(auto, unfolding(crate::specs::Table::kinds_fault), using(crate::specs::Laws::count_of_filter))]
 pub fn kinds_fault(kinds: &[u8]) -> bool
     ensures { result ≡ kinds_fault kinds.now }
 {
-    kinds.len() != 64 || any_over(kinds, 2) || 1 < count_of(kinds, u8::from(Kind::Zero))
+    kinds.len() != 64 || any_over(kinds, 2) || 1 < count_of(kinds, &u8::from(Kind::Zero))
 }
 
 // Refusal 4, of the prices.
@@ -221,10 +240,7 @@ pub fn kinds_fault(kinds: &[u8]) -> bool
 pub fn prices_fault(prices: &[u32]) -> bool
     ensures { result ≡ prices_fault prices.now }
 {
-    prices.len() != 196
-        || prices
-            .iter()
-            .fold(false, |over, &price| over | (30000 < price))
+    prices.len() != 196 || any_entry(prices, |price| 30000 < price)
 }
 
 // The number at a place of the price list, and 0 past its end.
@@ -243,8 +259,7 @@ fn pair_of(step: Step) -> usize
         Step::Pop => 0,
         Step::Dup(p) => 1 + p as usize,
         Step::Swap(d) => 17 + d as usize,
-        Step::PushImm(k) => 34 + k as usize,
-        Step::LoadVal(k) => 34 + k as usize,
+        Step::PushImm(k) | Step::LoadVal(k) => 34 + k as usize,
     }
 }
 
@@ -262,14 +277,31 @@ pub fn price_of(prices: &[u32], step: Option<Step>) -> Cost
     }
 }
 
+// The sum of the listed prices of the steps that a list's entries stand for, onto a sum so far.
+pub fn sum_of_prices<T, F: Fn(&T) -> Option<Step>>(
+    prices: &[u32],
+    from: Cost,
+    list: &[T],
+    step: F,
+) -> Cost
+    requires { F.IsAlwaysCallable step }
+    ensures { (f : T → Option Step) → Gives (FnReturnsAt F.Fn step) f → result ≡ fold (add_price prices.now f) from list.now }
+{
+    let mut sum = from;
+    for entry in list {
+        sum = sum.saturating_add(price_of(prices, step(entry)));
+    }
+    sum
+}
+
 // The sum of the listed prices of the steps.
 pub fn cost_for_steps(steps: &[u16], prices: &[u32]) -> Cost
     ensures { result ≡ cost_for_steps prices.now steps.now }
 {
-    let mut sum = Cost::zero();
-    for &code in steps {
-        let price = price_of(prices, Step::try_from(code).ok());
-        sum = sum.saturating_add(price);
-    }
-    sum
+    sum_of_prices(
+        prices,
+        Cost::zero(),
+        steps,
+        |&code| Step::try_from(code).ok(),
+    )
 }

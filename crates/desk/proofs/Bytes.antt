@@ -1,5 +1,6 @@
 -- The desk's answer where the bytes of its input are known: laws of the code.
-use Rattle.std.proofs.Common.{ℕ, zero, suc, ◌≡◌, ◌-◌, List, [], ◌++◌, None, Some, IfSome, true, refl, sym, ap, subst, ◌∙◌, append_assoc, append-nil, take, length, drop, take_at, take_all, take-append-drop, length-drop, arith}
+use Rattle.std.specs.Prelude.{◌⊎◌}
+use Rattle.std.proofs.Common.{ℕ, ◌≡◌, inl, inr, ◌-◌, List, [], ◌++◌, None, Some, IfSome, true, refl, sym, ap, subst, ◌∙◌, append_assoc, append-nil, take, length, drop, take_at, take_all, take-append-drop, length-drop, arith}
 use Rattle.std.specs.declared.option.Option.{Option}
 use Rattle.std.specs.Io.KnownBytes.{Appends, Consumes, IsAtEnd, Keeps}
 use Rattle.std.proofs.KnownBytes.{Consumes-nil, Consumes-trans, Appends-nil, Appends-trans, Appends-kept}
@@ -8,10 +9,9 @@ use Rattle.desk_text.specs.Noted.{Noted, noted}
 use Rattle.desk_text.specs.Machine.{fresh, fed_all}
 use Rattle.desk_text.specs.Meaning.{fed_append}
 use Rattle.desk_text.specs.Question.{question_of}
-use Rattle.desk_text.specs.Reader.{Heard, Fed}
+use Rattle.desk_text.specs.Reader.{Heard, Settled, Fed}
 use Rattle.desk_text.specs.Text.{printed}
 use Rattle.desk_answer.specs.Desk.{desk_answer, Responded}
-use Rattle.desk.specs.Listening.{Whole}
 use Rattle.desk.specs.Bytes.{Listened, RepliedTo}
 
 pub listened_none : (s : Noted) (input : Option (List ℕ)) → Listened s s input input
@@ -32,26 +32,25 @@ heard_on text more s r h e = e ∙ ap (λ (x : Noted). fed_all x more) h ∙ sym
 
 module _ (last : Reader) (list : List ℕ) (n : ℕ) (old out : List ℕ) (g : Responded (noted last list) old n out) where
   -- what was not read is passed over
-  same_question : (count : ℕ) → Whole count last true → (text rest : List ℕ) → (count ≡ 0 → rest ≡ []) → Heard text (noted last list) → question_of (text ++ rest) ≡ question_of text
-  same_question zero w text rest e h = ap question_of (ap (λ (l : List ℕ). text ++ l) (e refl) ∙ append-nil text)
-  same_question (suc count) w text rest e h = w.passed refl (λ z. omega (arith, z)) list text rest h
+  same_question : (text rest : List ℕ) → (rest ≡ []) ⊎ Settled last true → Heard text (noted last list) → question_of (text ++ rest) ≡ question_of text
+  same_question text rest (inl e) h = ap question_of (ap (λ (l : List ℕ). text ++ l) e ∙ append-nil text)
+  same_question text rest (inr w) h = w refl list text rest h
 
-  answered : (s : Noted) (count : ℕ) (fed rest xs : List ℕ) → noted last list ≡ fed_all s fed → xs ≡ fed ++ rest → Whole count last true → (count ≡ 0 → rest ≡ []) →
+  answered : (s : Noted) (fed rest xs : List ℕ) → noted last list ≡ fed_all s fed → xs ≡ fed ++ rest → (rest ≡ []) ⊎ Settled last true →
       (text : List ℕ) → Heard text s → (n, out) ≡ printed (desk_answer (question_of (text ++ xs))) old
-  answered s count fed rest xs f e w z text h =
+  answered s fed rest xs f e w text h =
       let heard : Heard (text ++ fed) (noted last list) = heard_on text fed s (noted last list) h f in
       let same : text ++ xs ≡ (text ++ fed) ++ rest = ap (λ (l : List ℕ). text ++ l) e ∙ sym (append_assoc text fed rest) in
-      let asked : question_of (text ++ xs) ≡ question_of (text ++ fed) = ap question_of same ∙ same_question count w (text ++ fed) rest z heard in
+      let asked : question_of (text ++ xs) ≡ question_of (text ++ fed) = ap question_of same ∙ same_question (text ++ fed) rest w heard in
       g.says (text ++ fed) heard ∙ ap (λ o. printed (desk_answer o) old) (sym asked)
 
-  by_bytes : (s : Noted) (a b : Option (List ℕ)) (count : ℕ) (fed : List ℕ) → noted last list ≡ fed_all s fed → Consumes a b fed → Whole count last true → (count ≡ 0 → IsAtEnd b) →
-      RepliedTo s a n old out
-  by_bytes s None b count fed f t w z = tt
-  by_bytes s (Some xs) None count fed f t w z = absurd t
-  by_bytes s (Some xs) (Some ys) count fed f t w z = answered s count fed ys xs f t w z
+  by_bytes : (s : Noted) (a b : Option (List ℕ)) (fed : List ℕ) → noted last list ≡ fed_all s fed → Consumes a b fed → IsAtEnd b ⊎ Settled last true → RepliedTo s a n old out
+  by_bytes s None b fed f t w = tt
+  by_bytes s (Some xs) None fed f t w = absurd t
+  by_bytes s (Some xs) (Some ys) fed f t w = answered s fed ys xs f t w
 
-  pub replied_to : (s : Noted) (a b : Option (List ℕ)) (count : ℕ) → Listened s (noted last list) a b → Whole count last true → (count ≡ 0 → IsAtEnd b) → RepliedTo s a n old out
-  replied_to s a b count l w z = by_bytes s a b count l.text l.fed l.taken w z
+  pub replied_to : (s : Noted) (a b : Option (List ℕ)) → Listened s (noted last list) a b → IsAtEnd b ⊎ Settled last true → RepliedTo s a n old out
+  replied_to s a b l w = by_bytes s a b l.text l.fed l.taken w
 
 -- the text is written but for the rest
 pub record Written (a b : Option (List ℕ)) (text rest : List ℕ) : Type 0 where

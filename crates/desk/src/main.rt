@@ -6,20 +6,20 @@
 // What cannot be read or written is said on standard error; where the input cannot be read, nothing is written on standard output.
 //
 // No contract can say what the system gives or takes, so the work stands in functions that are generic over a reader and a writer.
-// Proved at any reader: each turn feeds what its read left in the buffer, once (`hear`); the loop does nothing else to the reader
+// Proved at any reader: each turn feeds the piece that it gives back, a slice of the buffer, once (`hear`); the loop does nothing else to the reader
 // (`listen`); the answer is that to all the pieces in a row (`reply`). Proved where the bytes of the input and of the output are known:
 // the pieces are the input, a passing failure is tried again and loses nothing, and what is written is the desk's answer to the whole
 // input, or behind a failure the first bytes of it (`run`). Tested by tests/desk.c: the same of the system's streams, by their bytes.
 #![tactic(auto)]
 
-ghost use Rattle.std.specs.Prelude.{◌≡◌, ◌<◌, ◌≤◌, ◌↔◌, ℕ, true, IsTrue, IfOk, IfErr, OnOk, OnErr, length, take};
+ghost use Rattle.std.specs.Prelude.{◌≡◌, ◌<◌, ◌≤◌, ◌↔◌, ◌⊎◌, ℕ, true, IsTrue, IfOk, IfErr, OnOk, OnErr, [], length, take};
 ghost use Rattle.std.specs.Io.{ReadsAtMost, WritesAtMost};
 ghost use Rattle.std.specs.Io.KnownBytes.{Appends, Consumes, IsAtEnd, ReadConsumes, WriteAppends};
 ghost use Rattle.std.specs.IoError.{error_kind};
 ghost use Rattle.desk_text.specs.Noted.{noted};
-ghost use Rattle.desk_text.specs.Reader.{Fed};
+ghost use Rattle.desk_text.specs.Reader.{Fed, Settled};
 ghost use Rattle.desk_text.specs.Pieces.{FedPieces};
-ghost use Rattle.desk.specs.Listening.{Whole, Replied};
+ghost use Rattle.desk.specs.Listening.{Replied};
 ghost use Rattle.desk.specs.Bytes.{Passing, Listened, RepliedTo, Served};
 
 use desk_answer::respond;
@@ -31,11 +31,11 @@ use std::rt::Clock;
 use std::thread;
 use std::time::Duration;
 
-// A piece of the input: the reader that was fed with it, and how many bytes it has.
+// A piece of the input, and the reader that was fed with it.
 #[derive(Clone, Copy)]
-struct Turn {
+struct Turn<'a> {
     reader: Reader,
-    count: usize,
+    piece: &'a [u8],
 }
 
 // What the desk could not do, and the system's reason.
@@ -98,53 +98,50 @@ fn read_piece<R: Read>(input: &mut R, clock: &impl Clock, piece: &mut [u8]) -> i
     Err(gave_up())
 }
 
-// A piece more: what the read left in the buffer is fed, once.
-fn hear<R: Read>(
+// A piece more: what the read left in the buffer is fed, once, and given back.
+fn hear<'a, R: Read>(
     input: &mut R,
     clock: &impl Clock,
     reader: Reader,
-    piece: &mut [u8],
-    list: &mut [usize],
-) -> io::Result<Turn>
-    requires { length list.old ≡ 192 }
-    ensures fed { IfOk result (λ turn. Fed (take turn.count piece.new) (noted reader list.old) (noted turn.reader list.new)) }
-    ensures taken { IfOk result (λ turn. Consumes (R.remaining input.old) (R.remaining input.new) (take turn.count piece.new)) }
-    ensures end { IfOk result (λ turn. turn.count ≡ 0 → 0 < length piece.old → IsAtEnd (R.remaining input.new)) }
+    piece: &'a mut [u8],
+    list: &mut [usize; 192],
+) -> io::Result<Turn<'a>>
+    ensures fed { IfOk result (λ turn. Fed turn.piece.now (noted reader list.old) (noted turn.reader list.new)) }
+    ensures taken { IfOk result (λ turn. Consumes (R.remaining input.old) (R.remaining input.new) turn.piece.now) }
+    ensures end { IfOk result (λ turn. turn.piece.now ≡ [] → 0 < length piece.old → IsAtEnd (R.remaining input.new)) }
 {
     let count = read_piece(input, clock, piece)?;
-    let reader = reader.feed(&piece[..count], list);
-    Ok(Turn { reader, count })
+    let piece = &piece[..count];
+    let reader = reader.feed(piece, list);
+    Ok(Turn { reader, piece })
 }
 
 // Whether the input is whole: a read found its end, or whatever follows is passed over.
-#[tactic(auto, using(crate::specs::Listening::whole_by))]
-fn is_whole(turn: Turn) -> bool
-    ensures whole { Whole turn.count turn.reader result }
-    ensures end { turn.count ≡ 0 → IsTrue result }
+fn is_whole(turn: Turn<'_>) -> bool
+    ensures whole { result ≡ true → (turn.entry.piece.now ≡ []) ⊎ Settled turn.entry.reader true }
+    ensures end { turn.entry.piece.now ≡ [] → IsTrue result }
 {
-    turn.count == 0 || turn.reader.is_settled()
+    turn.piece.is_empty() || turn.reader.is_settled()
 }
 
-// Reads on, piece by piece, until the input is whole; the last piece. The reader was fed with the pieces and with nothing else, in
-// their order. The turns are counted up to a number that no run reaches.
+// Reads on, piece by piece, until the input is whole. The reader was fed with the pieces and with nothing else, in their order. The turns
+// are counted up to a number that no run reaches.
 #[tactic(auto, using(desk_text::specs::Feeding::sound_is, desk_text::specs::Pieces::piece_none, desk_text::specs::Pieces::piece_more, crate::proofs::Bytes::listened_none, crate::proofs::Bytes::listened_more))]
 fn listen<R: Read>(
     input: &mut R,
     clock: &impl Clock,
     mut reader: Reader,
     piece: &mut [u8],
-    list: &mut [usize],
-) -> io::Result<Turn>
-    requires { length list.old ≡ 192 }
-    ensures fed { IfOk result (λ turn. FedPieces (noted reader list.old) (noted turn.reader list.new)) }
-    ensures taken { IfOk result (λ turn. Listened (noted reader list.old) (noted turn.reader list.new) (R.remaining input.old) (R.remaining input.new)) }
-    ensures whole { IfOk result (λ turn. Whole turn.count turn.reader true) }
-    ensures end { IfOk result (λ turn. turn.count ≡ 0 → 0 < length piece.old → IsAtEnd (R.remaining input.new)) }
+    list: &mut [usize; 192],
+) -> io::Result<Reader>
+    ensures fed { IfOk result (λ last. FedPieces (noted reader list.old) (noted last list.new)) }
+    ensures taken { IfOk result (λ last. Listened (noted reader list.old) (noted last list.new) (R.remaining input.old) (R.remaining input.new)) }
+    ensures whole { IfOk result (λ last. 0 < length piece.old → IsAtEnd (R.remaining input.new) ⊎ Settled last true) }
 {
     for _ in 0..u64::MAX {
         let turn = hear(input, clock, reader, piece, list)?;
         if is_whole(turn) {
-            return Ok(turn);
+            return Ok(turn.reader);
         }
         reader = turn.reader;
     }
@@ -157,17 +154,17 @@ fn reply<R: Read>(
     input: &mut R,
     clock: &impl Clock,
     reader: Reader,
-    list: &mut [usize],
+    list: &mut [usize; 192],
     out: &mut [u8],
 ) -> io::Result<usize>
-    requires { (length list.old ≡ 192) × (32768 ≤ length out.old) }
+    requires { 32768 ≤ length out.old }
     ensures replied { IfOk result (λ count. Replied (noted reader list.old) true count out.old out.new) }
     ensures known { IfOk result (λ count. RepliedTo (noted reader list.old) (R.remaining input.old) count out.old out.new) }
     ensures err { OnErr result (out.new ≡ out.old) }
 {
     let mut piece = [0; 65536];
     let last = listen(input, clock, reader, &mut piece, list)?;
-    Ok(respond(last.reader, list, out))
+    Ok(respond(last, list, out))
 }
 
 // One write. After a passing failure it has taken nothing and not failed; a write that takes nothing has failed.

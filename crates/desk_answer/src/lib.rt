@@ -80,14 +80,12 @@ fn ask(limits: Limits, start: &[u8], goal: &[u8], out: &mut [u8]) -> usize
 }
 
 // What the desk says at the end of its input, over the first places of a buffer; how many bytes it is.
-pub fn respond(reader: Reader, list: &mut [usize], out: &mut [u8]) -> usize
-    requires { (length list.old ≡ 192) × (32768 ≤ length out.old) }
+pub fn respond(reader: Reader, list: &mut [usize; 192], out: &mut [u8]) -> usize
+    requires { 32768 ≤ length out.old }
     ensures { Responded (noted reader list.old) out.old result out.new }
 {
-    let mut start = [0; 64];
-    let mut goal = [0; 64];
-    match reader.finish(list, &mut start, &mut goal) {
-        Some(q) => ask(q.limits, &start[..q.start], &goal[..q.goal], out),
+    match reader.finish(list) {
+        Some(q) => ask(q.limits, &q.start, &q.goal, out),
         None => print(Spoken::Unreadable, &[], out),
     }
 }

@@ -1,5 +1,5 @@
 -- What the desk reads, six limits and two lists of keys, or nothing: document 01, "The exam desk program".
-use Rattle.std.specs.Prelude.{ℕ, List, [], ◌∷◌, ◌++◌, map, eqb, ltb, length, drop, get_or}
+use Rattle.std.specs.Prelude.{ℕ, List, [], ◌∷◌, map, eqb, ltb, length, get_or}
 use Rattle.std.specs.Prelude.{Option, None, Some}
 use Rattle.costs.specs.Choice.{◌if◌otherwise◌}
 use Rattle.desk_text.specs.declared.read.Limits.{Limits}
@@ -56,12 +56,7 @@ question_of text = of_three (first_three (lines_from [] text))
 abbrev pub key_of : ℕ → ℕ
 key_of n = n if ltb n 256 otherwise 255
 
--- numbers over the first places of a list, the rest untouched
-abbrev pub over : List ℕ → List ℕ → List ℕ
-over new old = new ++ drop (length new) old
-
--- what the reader answers, and its two lists of key bytes; on unreadable input no list has changed
-abbrev pub read_into : Option Asked → List ℕ → List ℕ → Option Question × List ℕ × List ℕ
-read_into None start goal = (None, start, goal)
-read_into (Some q) start goal =
-    (Some (record { limits = limits_of q.limits; start = length q.start; goal = length q.goal }), over (map key_of q.start) start, over (map key_of q.goal) goal)
+-- what the reader answers: the limits, and the key bytes of start and goal
+abbrev pub read_as : Option Asked → Option Question
+read_as None = None
+read_as (Some q) = Some (record { limits = limits_of q.limits; start = record { items = map key_of q.start }; goal = record { items = map key_of q.goal } })

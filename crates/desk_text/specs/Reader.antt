@@ -1,10 +1,10 @@
 -- What the reader's contracts say: the text heard, the bounds that it keeps, a piece more, the end of the input.
-use Rattle.std.specs.Prelude.{ℕ, ◌<◌, ◌≤◌, Bool, true, List, ◌++◌, ◌≡◌, refl, length, Option, IfSome}
+use Rattle.std.specs.Prelude.{ℕ, ◌<◌, ◌≤◌, Bool, true, List, ◌++◌, ◌≡◌, refl, length, Option}
 use Rattle.std.proofs.Common.{arith}
 use Rattle.desk_text.specs.declared.read.Reader.{Reader}
 use Rattle.desk_text.specs.Noted.{Noted, noted}
 use Rattle.desk_text.specs.declared.read.Question.{Question}
-use Rattle.desk_text.specs.Question.{question_of, read_into}
+use Rattle.desk_text.specs.Question.{question_of, read_as}
 use Rattle.desk_text.specs.Machine.{no_numbers, fresh, fed_all}
 
 -- a reader is what a text leaves of a new one
@@ -32,14 +32,9 @@ pub record Idle (bytes : List ℕ) (s : Reader) (rest : List ℕ) : Type 0 where
 abbrev pub Settled : Reader → Bool → Type 0
 Settled s r = r ≡ true → (list text more : List ℕ) → Heard text (noted s list) → question_of (text ++ more) ≡ question_of text
 
--- at most 64 keys each
-abbrev pub KeysWithin : Option Question → Type 0
-KeysWithin r = IfSome r (λ q. (q.start ≤ 64) × (q.goal ≤ 64))
-
--- the end of the input: the answer and the two lists are those of the text heard
-pub record Finished (s : Noted) (start goal : List ℕ) (r : Option Question) (start' goal' : List ℕ) : Type 0 where
-  pub within : KeysWithin r
-  pub question : (text : List ℕ) → Heard text s → (r, start', goal') ≡ read_into (question_of text) start goal
+-- the end of the input: the answer is that of the text heard
+abbrev pub Finished : Noted → Option Question → Type 0
+Finished s r = (text : List ℕ) → Heard text s → r ≡ read_as (question_of text)
 
 pub fresh_sound : Sound fresh
 unfolding fresh no_numbers

@@ -8,7 +8,7 @@ use costs::Step;
 use itoa::Buffer;
 
 // The planner's nine fields and the highest window. The planner's own answer has them beside a refusal, but the desk's text stands
-// below the planner, on the costs alone.
+// on the costs alone, and the planner's type would put the whole engine below it.
 #[derive(Clone, Copy, PartialEq, Eq)]
 pub struct Fields {
     pub found: usize,

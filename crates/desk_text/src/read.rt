@@ -1,11 +1,14 @@
 // Reading the desk's input, byte by byte and in pieces of any length.
 ghost use Rattle.std.specs.Prelude.{◌≡◌, ◌==◌, ◌<◌, ◌≤◌, Some, unwrap_or, map, length, take};
 ghost use Rattle.std.specs.List.{prefix_len};
-ghost use Rattle.desk_text.specs.Question.{limits_of, key_of, over, question_of, read_into};
+ghost use Rattle.desk_text.specs.Question.{limits_of, key_of, question_of, read_as};
 ghost use Rattle.std.specs.Option.{ForSome};
 ghost use Rattle.desk_text.specs.Machine.{no_numbers};
 
-// The first line.
+use arrayvec::ArrayVec;
+
+// The first line: the six numbers of the planner's `SearchCfg` and `Allowances`. The desk's text stands on the costs alone, and those would put
+// the whole engine below it.
 #[derive(Clone, Copy, PartialEq, Eq)]
 pub struct Limits {
     pub dup_max: usize,
@@ -16,12 +19,12 @@ pub struct Limits {
     pub states_with: usize,
 }
 
-// What the desk's input asks: the limits and how many keys start and goal have.
-#[derive(Clone, Copy, PartialEq, Eq)]
+// What the desk's input asks: the limits and the keys' bytes of start and goal.
+#[derive(PartialEq, Eq, Drop)]
 pub struct Question {
     pub limits: Limits,
-    pub start: usize,
-    pub goal: usize,
+    pub start: ArrayVec<u8, 64>,
+    pub goal: ArrayVec<u8, 64>,
 }
 
 // The line that is read; `Done` once three lines have ended, `Lost` if the input is unreadable whatever follows.
@@ -68,14 +71,16 @@ pub fn key_byte(n: usize) -> u8
     u8::try_from(n).unwrap_or(255)
 }
 
-// The keys' bytes over the first places of a list.
-fn put_keys(numbers: &[usize], keys: &mut [u8])
-    requires { length numbers.now ≤ length keys.old }
-    ensures { keys.new ≡ over (map key_of numbers.now) keys.old }
+// The keys' bytes.
+fn key_bytes(numbers: &[usize]) -> ArrayVec<u8, 64>
+    requires { length numbers.now ≤ 64 }
+    ensures { result.items ≡ map key_of numbers.now }
 {
-    for (i, &n) in numbers.iter().enumerate() {
-        keys[i] = key_byte(n);
+    let mut keys = ArrayVec::new();
+    for &n in numbers {
+        keys.push(key_byte(n));
     }
+    keys
 }
 
 // How many digits `0` stand at the front.
@@ -131,9 +136,9 @@ impl Reader {
 
     // The word's value among the line's numbers.
     #[tactic(auto, unfolding(crate::specs::Machine::kept))]
-    fn kept(mut self, value: u32, list: &mut [usize]) -> Reader
+    fn kept(mut self, value: u32, list: &mut [usize; 192]) -> Reader
         requires word { self.word ≡ Some value }
-        requires room { (line_of self.line < 3) × (self.count < 64) × (length list.old ≡ 192) }
+        requires room { (line_of self.line < 3) × (self.count < 64) }
         ensures { noted result list.new ≡ kept (noted self list.old) }
     {
         let at = 64 * self.line as usize + usize::from(self.count);
@@ -146,8 +151,8 @@ impl Reader {
 
     // The word ends.
     #[tactic(auto, unfolding(crate::specs::Machine::word_ended))]
-    fn word_ended(self, list: &mut [usize]) -> Reader
-        requires { (line_of self.line < 3) × (length list.old ≡ 192) }
+    fn word_ended(self, list: &mut [usize; 192]) -> Reader
+        requires { line_of self.line < 3 }
         ensures { noted result list.new ≡ word_ended (noted self list.old) }
     {
         match self.word {
@@ -181,8 +186,8 @@ impl Reader {
 
     // A line feed.
     #[tactic(auto, unfolding(crate::specs::Machine::line_fed))]
-    fn line_fed(self, list: &mut [usize]) -> Reader
-        requires { (line_of self.line < 3) × (length list.old ≡ 192) }
+    fn line_fed(self, list: &mut [usize; 192]) -> Reader
+        requires { line_of self.line < 3 }
         ensures { noted result list.new ≡ line_fed (noted self list.old) }
     {
         if self.begun {
@@ -208,8 +213,7 @@ impl Reader {
 
     // One byte more.
     #[tactic(auto, unfolding(crate::specs::Machine::fed_byte, crate::specs::Machine::digit_fed, crate::specs::Grammar::is_digit))]
-    fn fed(self, b: u8, list: &mut [usize]) -> Reader
-        requires { length list.old ≡ 192 }
+    fn fed(self, b: u8, list: &mut [usize; 192]) -> Reader
         ensures { noted result list.new ≡ fed_byte (noted self list.old) b }
     {
         match (self.line, b) {
@@ -233,8 +237,7 @@ impl Reader {
 
     // A piece of the input more.
     #[tactic(auto, using(crate::specs::Feeding::sound_is), unfolding(crate::specs::Machine::fed_all))]
-    pub fn feed(self, piece: &[u8], list: &mut [usize]) -> Reader
-        requires { length list.old ≡ 192 }
+    pub fn feed(self, piece: &[u8], list: &mut [usize; 192]) -> Reader
         ensures { Fed piece.now (noted self list.old) (noted result list.new) }
     {
         let mut reader = self;
@@ -256,8 +259,7 @@ impl Reader {
 
     // The end of the input ends a line that is not empty.
     #[tactic(auto, unfolding(crate::specs::Machine::at_end))]
-    fn at_end(self, list: &mut [usize]) -> Reader
-        requires { length list.old ≡ 192 }
+    fn at_end(self, list: &mut [usize; 192]) -> Reader
         ensures { noted result list.new ≡ at_end (noted self list.old) }
     {
         if self.begun {
@@ -267,10 +269,9 @@ impl Reader {
         }
     }
 
-    // The end of the input: the question that it asked, the keys' bytes over the first places of two lists.
-    pub fn finish(self, list: &mut [usize], start: &mut [u8], goal: &mut [u8]) -> Option<Question>
-        requires { (length list.old ≡ 192) × (64 ≤ length start.old) × (64 ≤ length goal.old) }
-        ensures { Finished (noted self list.old) start.old goal.old result start.new goal.new }
+    // The end of the input: the question that it asked.
+    pub fn finish(self, list: &mut [usize; 192]) -> Option<Question>
+        ensures { Finished (noted self list.old) result }
     {
         let reader = self.at_end(list);
         if reader.line != Line::Done {
@@ -278,22 +279,19 @@ impl Reader {
         }
         let starts = usize::from(reader.starts);
         let goals = usize::from(reader.count);
-        put_keys(&list[64..64 + starts], start);
-        put_keys(&list[128..128 + goals], goal);
         Some(Question {
             limits: first_line(list),
-            start: starts,
-            goal: goals,
+            start: key_bytes(&list[64..64 + starts]),
+            goal: key_bytes(&list[128..128 + goals]),
         })
     }
 }
 
-// The question that a text asks: the keys' bytes over the first places of two lists.
-pub fn read(text: &[u8], start: &mut [u8], goal: &mut [u8]) -> Option<Question>
-    requires { (64 ≤ length start.old) × (64 ≤ length goal.old) }
-    ensures { (result, start.new, goal.new) ≡ read_into (question_of text.now) start.old goal.old }
+// The question that a text asks.
+pub fn read(text: &[u8]) -> Option<Question>
+    ensures { result ≡ read_as (question_of text.now) }
 {
     let mut list = number_room();
     let reader = Reader::new().feed(text, &mut list);
-    reader.finish(&mut list, start, goal)
+    reader.finish(&mut list)
 }

@@ -7,7 +7,7 @@ ghost use Rattle.lists.specs.View.{waits, queue_of, Piled};
 ghost use Rattle.drained.specs.Agree.{Agree};
 
 use costs::Cost;
-use face::Entry;
+use heap::Entry;
 use std::io;
 use window::PackedState;
 
@@ -20,7 +20,7 @@ const TABLE: [u32; 40] = [
 ];
 
 // An entry by the digits of a number: f's gas and bytes, g's gas and bytes, the halves of the state.
-fn entry_of(digits: u32) -> Entry {
+fn entry_of(digits: u32) -> Entry<Cost> {
     Entry {
         f: Cost {
             gas: digits / 100000 % 10,
@@ -38,11 +38,11 @@ fn entry_of(digits: u32) -> Entry {
 }
 
 // The entry as the heap has it.
-// It is no `From`, since neither type is this crate's own.
-fn numbers(e: Entry) -> heap::Entry
+// It is no `From`: neither type is this crate's own, and in heap it would serve this crate alone.
+fn numbers(e: Entry<Cost>) -> Entry<u64>
     ensures { waits result ≡ entry_of e }
 {
-    heap::Entry {
+    Entry {
         f: u64::from(e.f),
         g: u64::from(e.g),
         state: e.state,
@@ -50,19 +50,15 @@ fn numbers(e: Entry) -> heap::Entry
 }
 
 // Whether an entry of the face is an entry of the heap.
-fn same(e: Entry, h: heap::Entry) -> bool
+#[tactic(auto, unfolding(costs::specs::Packed::cost_of, window::specs::State::whole))]
+fn same(e: Entry<Cost>, h: Entry<u64>) -> bool
     ensures { entry_of e ≡ waits h → result ≡ true }
 {
-    let there = Entry {
-        f: Cost::from(h.f),
-        g: Cost::from(h.g),
-        state: h.state,
-    };
-    e == there
+    numbers(e) == h
 }
 
 // All entries of the table are pushed.
-fn fill(list: &mut [u64]) -> [Entry; 64]
+fn fill(list: &mut [u64]) -> [Entry<Cost>; 64]
     requires { 160 ≤ length list.old }
     ensures { Agree result list.new 40 }
 {
@@ -76,7 +72,7 @@ fn fill(list: &mut [u64]) -> [Entry; 64]
 }
 
 // Both are drained; whether the entries come in one order.
-fn same_order(open: &mut [Entry], list: &mut [u64]) -> bool
+fn same_order(open: &mut [Entry<Cost>], list: &mut [u64]) -> bool
     requires { Agree «open».old list.old 40 }
     ensures { result ≡ true }
 {

@@ -14,29 +14,29 @@ use Rattle.astar.specs.Search.{Entry as Waiting, before}
 use Rattle.astar.specs.Bag.{sorted}
 use Rattle.astar.proofs.Bag.{taken, filled, dropped}
 use Rattle.face.specs.Open.{entry_of, queue_in, no_later, zero, at, least_at, least_of, without, held, Taken, Removed}
-use Rattle.face.specs.declared.Entry.{Entry}
+use Rattle.heap.specs.declared.Entry.{Entry}
 use Rattle.face.specs.Laws.{least_found, held_in}
 
 -- ---- the entries of the search in the places
 
-map_get_d : (xs : List Entry) (i : ℕ) → get_or (map entry_of xs) i (entry_of zero) ≡ entry_of (at xs i)
+map_get_d : (xs : List (Entry Cost)) (i : ℕ) → get_or (map entry_of xs) i (entry_of zero) ≡ entry_of (at xs i)
 map_get_d [] i = refl
 map_get_d (x ∷ xs) zeroN = refl
 map_get_d (x ∷ xs) (suc i) = map_get_d xs i
 
-map_set : (xs : List Entry) (i : ℕ) (e : Entry) → map entry_of (set xs i e) ≡ set (map entry_of xs) i (entry_of e)
+map_set : (xs : List (Entry Cost)) (i : ℕ) (e : Entry Cost) → map entry_of (set xs i e) ≡ set (map entry_of xs) i (entry_of e)
 map_set [] i e = refl
 map_set (x ∷ xs) zeroN e = refl
 map_set (x ∷ xs) (suc i) e = ap (λ (l : List (Waiting Cost)). entry_of x ∷ l) (map_set xs i e)
 
-map_take : (n : ℕ) (xs : List Entry) → map entry_of (take n xs) ≡ take n (map entry_of xs)
+map_take : (n : ℕ) (xs : List (Entry Cost)) → map entry_of (take n xs) ≡ take n (map entry_of xs)
 map_take zeroN xs = refl
 map_take (suc n) [] = refl
 map_take (suc n) (x ∷ xs) = ap (λ (l : List (Waiting Cost)). entry_of x ∷ l) (map_take n xs)
 
 -- ---- the queue's head and rest
 
-module _ (s : List Entry) (n : ℕ) (some_in : 0 < n) (n-in : n ≤ length s) where
+module _ (s : List (Entry Cost)) (n : ℕ) (some_in : 0 < n) (n-in : n ≤ length s) where
   abbrev es : List (Waiting Cost)
   es = map entry_of (take n s)
 
@@ -69,18 +69,18 @@ module _ (s : List Entry) (n : ℕ) (some_in : 0 < n) (n-in : n ≤ length s) wh
       ap (λ (j : ℕ). sorted gas_bytes (take j es ++ drop (suc j) es)) q
       ∙ sym (dropped gas_bytes (entry_of zero) es (n - 1) longer)
       ∙ ap (sorted gas_bytes) (sym (map_take (n - 1) (take n s)))
-      ∙ ap (λ (l : List Entry). sorted gas_bytes (map entry_of l)) (take-take (n - 1) n s (omega arith) ∙ sym (take-set-le (n - 1) s k (at s (n - 1)) (omega arith)))
+      ∙ ap (λ (l : List (Entry Cost)). sorted gas_bytes (map entry_of l)) (take-take (n - 1) n s (omega arith) ∙ sym (take-set-le (n - 1) s k (at s (n - 1)) (omega arith)))
   left false e =
       let ne : k ≡ n - 1 → ⊥ = eqb-false k (n - 1) e in
       let h : k < n = k_in in
       let m : k < n - 1 = omega arith in
-      let v : Entry = at s (n - 1) in
+      let v : Entry Cost = at s (n - 1) in
       sym (filled gas_bytes (entry_of zero) es k (n - 1) longer m)
       ∙ ap (λ (x : Waiting Cost). sorted gas_bytes (take (n - 1) (set es k x))) (here (n - 1) (omega arith))
       ∙ ap (λ (l : List (Waiting Cost)). sorted gas_bytes (take (n - 1) l)) (sym (map_set (take n s) k v))
       ∙ ap (sorted gas_bytes) (sym (map_take (n - 1) (set (take n s) k v)))
-      ∙ ap (λ (l : List Entry). sorted gas_bytes (map entry_of (take (n - 1) l))) (sym (take-set-lt n s k v h))
-      ∙ ap (λ (l : List Entry). sorted gas_bytes (map entry_of l)) (take-take (n - 1) n (set s k v) (omega arith))
+      ∙ ap (λ (l : List (Entry Cost)). sorted gas_bytes (map entry_of (take (n - 1) l))) (sym (take-set-lt n s k v h))
+      ∙ ap (λ (l : List (Entry Cost)). sorted gas_bytes (map entry_of l)) (take-take (n - 1) n (set s k v) (omega arith))
 
   pub queue_take : queue_in s n ≡ entry_of (least_of s n) ∷ queue_in (without s n) (n - 1)
   unfolding queue_in
@@ -91,11 +91,11 @@ module _ (s : List Entry) (n : ℕ) (some_in : 0 < n) (n-in : n ≤ length s) wh
 
 -- ---- what the functions say
 
-pub took : (s t : List Entry) (n : ℕ) (r : Entry) → held s n ≡ true → Removed s t n r → Taken s t n (Some r)
+pub took : (s t : List (Entry Cost)) (n : ℕ) (r : Entry Cost) → held s n ≡ true → Removed s t n r → Taken s t n (Some r)
 took s t n r h is =
     let i : (0 < n) × (n ≤ length s) = held_in n (length s) h in
     record {
       answer = ap Some is.least ∙ sym (ap (λ (b : Bool). cond b (Some (least_of s n)) None) h);
       list = is.list ∙ sym (ap (λ (b : Bool). cond b (without s n) s) h);
-      queue = λ _. queue_take s n i.0 i.1 ∙ ap (λ (l : List Entry). entry_of (least_of s n) ∷ queue_in l (n - 1)) (sym is.list);
+      queue = λ _. queue_take s n i.0 i.1 ∙ ap (λ (l : List (Entry Cost)). entry_of (least_of s n) ∷ queue_in l (n - 1)) (sym is.list);
     }

@@ -1,5 +1,5 @@
 -- The words of the contracts, over the weights that the code is given.
-use Rattle.std.specs.Prelude.{ℕ, ◌+◌, ◌<◌, ◌≤◌, ◌≡◌, List, length, get_or}
+use Rattle.std.specs.Prelude.{ℕ, ◌+◌, ◌<◌, ◌≤◌, ◌≡◌, List, get_or}
 use Rattle.heuristic.specs.declared.Weights.{Weights}
 use Rattle.heuristic.specs.declared.Change.{Change}
 use Rattle.heuristic.specs.declared.Change.TheVariants.{Adds, Saves}
@@ -27,7 +27,7 @@ Stands x h have w goal = Standing x.prices.now x.dup h have x.want.now w goal
 -- inside the domain: prices of at most 30,000, and at most 42 copies of a key, there or wanted
 pub record Few (x : Weights) (k count : ℕ) : Type 0 where
   pub prices_cheap : Cheap x.prices.now
-  pub place : k < length x.want.now
+  pub place : k < 64
   pub wanted : get_or x.want.now k 0 ≤ 42
   pub copies : count ≤ 42
 

@@ -1,17 +1,19 @@
 -- The keys that two windows share at the bottom, as the successors' code counts them.
-use Rattle.std.specs.Prelude.{ℕ, zero, suc, ◌+◌, ◌-◌, ◌<◌, ◌≤◌, min, Bool, true, false, List, [], ◌∷◌, ◌≡◌, refl, length, drop, reverse, eqb}
+use Rattle.std.specs.Prelude.{ℕ, zero, suc, ◌+◌, ◌≤◌, min, Bool, true, false, List, [], ◌∷◌, ◌≡◌, refl, length, drop, reverse, eqb}
 use Rattle.std.specs.Prelude.{Some}
 use Rattle.std.proofs.Common.{ap, arith, length-drop}
 use Rattle.std.proofs.lemmas.List.{get_or-reverse, length-reverse}
 use Rattle.std.proofs.Math.Numerals.{add-one}
 use Rattle.costs.specs.declared.Cost.{Cost}
-use Rattle.costs.specs.declared.Step.TheVariants.{Pop}
+use Rattle.costs.specs.declared.Step.TheVariants.{Pop, PushImm}
 use Rattle.costs.specs.Cost.{plus}
 use Rattle.costs.specs.Price.{price_of}
+use Rattle.costs.specs.Sum.{add_price}
+use Rattle.std.specs.List.{fold}
 use Rattle.costs.specs.Choice.{◌if◌otherwise◌}
 use Rattle.costs.specs.Laws.{drop_turn}
 use Rattle.successors.specs.Successors.{common}
-use Rattle.incumbent.specs.Flush.{bottom_at, same_from, common_suffix, with_pops}
+use Rattle.incumbent.specs.Flush.{bottom_at, same_from, common_suffix, with_pops, with_keys}
 
 -- nothing is common with an empty list
 common_none : (xs ys : List ℕ) → min (length xs) (length ys) ≡ 0 → common xs ys ≡ 0
@@ -67,7 +69,14 @@ pub suffix_low : (a b : List ℕ) → (common_suffix a b ≤ length a) × (commo
 unfolding common_suffix
 suffix_low a b = let h = same_low (min (length a) (length b)) 0 a b in (omega arith, omega arith)
 
--- one pop fewer is left
-pub pops_turn : (prices : List ℕ) (n i : ℕ) (sum : Cost) → i < n → with_pops prices (n - i) sum ≡ with_pops prices (n - (i + 1)) (plus sum (price_of prices (Some Pop)))
+-- the sum over a list of which each entry stands for a pop
+pub fold_pops : (prices : List ℕ) (sum : Cost) (xs : List ℕ) → fold (add_price prices (λ _. Some Pop)) sum xs ≡ with_pops prices (length xs) sum
 unfolding with_pops
-pops_turn prices n i sum l = let e : n - i ≡ suc (n - (i + 1)) = omega arith in rw e
+fold_pops prices sum [] = refl
+fold_pops prices sum (x ∷ xs) = fold_pops prices (plus sum (price_of prices (Some Pop))) xs
+
+-- the sum over keys that are made
+pub fold_keys : (prices : List ℕ) (sum : Cost) (ks : List ℕ) → fold (add_price prices (λ k. Some (PushImm k))) sum ks ≡ with_keys prices sum ks
+unfolding with_keys
+fold_keys prices sum [] = refl
+fold_keys prices sum (k ∷ ks) = fold_keys prices (plus sum (price_of prices (Some (PushImm k)))) ks

@@ -35,19 +35,19 @@ ins_push k (x ∷ ks) =
     ]
 
 -- the entry of a key is the entry that it was made of
-pub key_entry : (e : Waiting) → e.g < 2 ^ 64 → e.state.hi < 2 ^ 64 → e.state.lo < 2 ^ 64 → decode (key_of e) ≡ e
+pub key_entry : (e : Waiting ℕ) → e.g < 2 ^ 64 → e.state.hi < 2 ^ 64 → e.state.lo < 2 ^ 64 → decode (key_of e) ≡ e
 unfolding decode digit
 key_entry e g hi lo = grind arith
 
-pub pushed_heap : (xs ys : List ℕ) (m : ℕ) (e : Waiting) → e.g < 2 ^ 64 → e.state.hi < 2 ^ 64 → e.state.lo < 2 ^ 64 → m * 4 + 4 ≤ length xs → length ys ≡ length xs → Heap ys (m + 1) → sorted ys (m + 1) ≡ ins (key_of e) (sorted xs m) → Pushed xs m e ys
+pub pushed_heap : (xs ys : List ℕ) (m : ℕ) (e : Waiting ℕ) → e.g < 2 ^ 64 → e.state.hi < 2 ^ 64 → e.state.lo < 2 ^ 64 → m * 4 + 4 ≤ length xs → length ys ≡ length xs → Heap ys (m + 1) → sorted ys (m + 1) ≡ ins (key_of e) (sorted xs m) → Pushed xs m e ys
 pushed_heap xs ys m e sg sh sl room long h q = record {
-  pushed = ap (map entry_at) q ∙ ins_push (key_of e) (sorted xs m) ∙ ap (λ (x : Waiting). push gas_bytes (waits x) (queue_of xs m)) (key_entry e sg sh sl);
+  pushed = ap (map entry_at) q ∙ ins_push (key_of e) (sorted xs m) ∙ ap (λ (x : Waiting ℕ). push gas_bytes (waits x) (queue_of xs m)) (key_entry e sg sh sl);
   piled = record { heap = h; room = omega arith };
 }
 
-pub taken_heap : (xs ys : List ℕ) (m : ℕ) (e : Waiting) → Piled xs m → 0 < m → length ys ≡ length xs → Heap ys (m - 1) → key_of e ∷ sorted ys (m - 1) ≡ sorted xs m → decode (key_of e) ≡ e → Taken xs m e ys (m - 1)
+pub taken_heap : (xs ys : List ℕ) (m : ℕ) (e : Waiting ℕ) → Piled xs m → 0 < m → length ys ≡ length xs → Heap ys (m - 1) → key_of e ∷ sorted ys (m - 1) ≡ sorted xs m → decode (key_of e) ≡ e → Taken xs m e ys (m - 1)
 taken_heap xs ys m e P pos long h q d = record {
-  taken = sym (ap (map entry_at) q) ∙ ap (λ (x : Waiting). waits x ∷ queue_of ys (m - 1)) d;
+  taken = sym (ap (map entry_at) q) ∙ ap (λ (x : Waiting ℕ). waits x ∷ queue_of ys (m - 1)) d;
   piled = record { heap = h; room = omega (arith, P.room) };
 }
 

@@ -46,7 +46,7 @@ blank = record { state = 0; cost = cost_of 0; parent = None }
 
 -- ---- the open entries
 
-abbrev pub waits : Waiting → Entry Cost
+abbrev pub waits : Waiting ℕ → Entry Cost
 waits e = record { f = cost_of e.f; g = cost_of e.g; state = whole e.state }
 
 abbrev pub entry_at : ℕ → Entry Cost
@@ -82,11 +82,11 @@ pub record Stored (xs : List ℕ) (n : ℕ) (v : SearchNode) (ys hs : List ℕ) 
   pub most : r ≤ n + 1
 
 -- the entry e was pushed
-pub record Pushed (xs : List ℕ) (m : ℕ) (e : Waiting) (ys : List ℕ) : Type 0 where
+pub record Pushed (xs : List ℕ) (m : ℕ) (e : Waiting ℕ) (ys : List ℕ) : Type 0 where
   pub pushed : queue_of ys (m + 1) ≡ push gas_bytes (waits e) (queue_of xs m)
   pub piled : Piled ys (m + 1)
 
 -- the least entry was taken
-pub record Taken (xs : List ℕ) (m : ℕ) (e : Waiting) (ys : List ℕ) (l : ℕ) : Type 0 where
+pub record Taken (xs : List ℕ) (m : ℕ) (e : Waiting ℕ) (ys : List ℕ) (l : ℕ) : Type 0 where
   pub taken : queue_of xs m ≡ waits e ∷ queue_of ys l
   pub piled : Piled ys l

@@ -14,7 +14,7 @@ use heap::Entry;
 use nodes::Row;
 use window::PackedState;
 
-// The step number of a row with no parent: no step's code.
+// The step number of a row with no parent: no step's code. A number, since a row is numbers in a list that the caller lends.
 const NO_STEP: u64 = 65536;
 
 // What the search knows of a state. A cost is gas * 2^32 + bytes. The start has no parent; any other state was reached by a step from
@@ -105,7 +105,7 @@ pub fn store(nodes: &mut [u64], heads: &mut [u64], n: usize, at: Option<usize>, 
     }
 }
 
-pub fn push(list: &mut [u64], m: usize, e: Entry)
+pub fn push(list: &mut [u64], m: usize, e: Entry<u64>)
     requires piled { Piled list.old m }
     requires m_in_bounds { m * 4 + 4 ≤ length list.old }
     ensures { Pushed list.old m e list.new }
@@ -114,7 +114,7 @@ pub fn push(list: &mut [u64], m: usize, e: Entry)
 }
 
 // Takes the least entry by f, then g, then the state.
-pub fn take(list: &mut [u64], m: usize) -> Entry
+pub fn take(list: &mut [u64], m: usize) -> Entry<u64>
     requires piled { Piled list.old m }
     requires m_nonzero { 0 < m }
     ensures { Taken list.old m result list.new (m - 1) }

@@ -20,7 +20,7 @@ use window::PackedState;
 pub struct Expansion<'a> {
     pub state: PackedState,
     pub estimate: u32,
-    pub have: &'a [u8],
+    pub have: &'a [u8; 64],
     pub weights: Weights<'a>,
 }
 
@@ -39,6 +39,7 @@ impl Expansion<'_> {
     }
 
     // The successor by a step that puts a key on top.
+    // A key is a byte of a list that C lends and no type of its own, so that it is below 64 is asked.
     fn push(self, step: Step, key: u8) -> Successor
         requires { (key < 64) × (length (keys_of self.state) < 21) × (key ∷ keys_of self.state ≡ after step (keys_of self.state)) × ((goal : List ℕ) × ((dup_max : ℕ) × Expands self goal dup_max)) }
         ensures { (goal : List ℕ) → (dup_max : ℕ) → Expands self.entry goal dup_max → Told self.entry.weights.prices.now dup_max goal (keys_of self.entry.state) step result }
@@ -69,7 +70,7 @@ impl Expansion<'_> {
 }
 
 // The estimate of a state, and the counts of its keys, into a table of zeros. The keys are the goal's, each once.
-pub fn standing(weights: Weights<'_>, state: PackedState, keys: &[u8], have: &mut [u8]) -> u32
+pub fn standing(weights: Weights<'_>, state: PackedState, keys: &[u8], have: &mut [u8; 64]) -> u32
     requires { Window state × Counted have.old [] × ((goal : List ℕ) × Asking weights.prices.now weights.want.now keys.now goal) }
     ensures { (goal : List ℕ) → (dup_max : ℕ) → Asking weights.entry.prices.now weights.entry.want.now keys.now goal → weights.entry.dup ≡ least_dup weights.entry.prices.now dup_max
         → Parent weights.entry.prices.now weights.entry.dup result have.new weights.entry.want.now state goal dup_max }

@@ -1,13 +1,13 @@
 -- Laws of the node list, on plain lists. Assumes nothing.
-use Rattle.std.proofs.Common.{◌≡◌, ◌≢◌, refl, sym, ap, ap₂, ◌∙◌, ⊎_elim, Bool, true, false, Some, None, List, ℕ, zero, suc, ◌+◌, ◌*◌, ◌/◌, ◌^◌, ◌≤◌, ◌<◌, min, arith, length, get_or, set, length-set, eqb, mod-lt}
-use Rattle.std.proofs.lemmas.Bool.{cases_Bool, false_from_ne_true, cases_eq, and_parts, eqb-true}
+use Rattle.std.proofs.Common.{◌≡◌, ◌≢◌, refl, sym, ap, ap₂, ◌∙◌, ⊎_elim, Bool, true, false, Option, Some, None, List, ℕ, zero, suc, ◌+◌, ◌*◌, ◌/◌, ◌^◌, ◌≤◌, ◌<◌, min, arith, length, get_or, set, length-set, eqb, mod-lt}
+use Rattle.std.proofs.lemmas.Bool.{cases_Bool, false_from_ne_true, cases_eq, cases_lt, and_parts, eqb-true, lt-ltb, le-ltb}
 use Rattle.std.proofs.lemmas.List.{get_or-set_same, get_or-set_other}
 use Rattle.std.proofs.lemmas.Grind.{elements}
 use Rattle.std.proofs.Math.Nat.{mul-lt-mul_of_pos_right, mul-le-mul}
 use Rattle.costs.specs.Laws.{some_injective}
 use Rattle.window.specs.declared.PackedState.{PackedState}
 use Rattle.nodes.specs.declared.Row.{Row}
-use Rattle.nodes.specs.Nodes.{state_at, row_at, written, rows, is_state, lookup, bucket_of, bucket_at, Led, Leads, Chained, Wrote}
+use Rattle.nodes.specs.Nodes.{node_of, state_at, row_at, written, rows, is_state, lookup, bucket_of, bucket_at, Led, Leads, Chained, Wrote}
 
 pub scaled_fits : (k w : ℕ) → k < 4294967296 → w ≤ 4294967295 → k * w < 2 ^ 64
 scaled_fits k w l h =
@@ -77,40 +77,64 @@ lookup_missing xs s (suc n) e k l h =
     (λ f. ⊎_elim (λ q. cc (ap (λ (j : ℕ). is_state (row_at xs j) s) q)) (λ ne. lookup_missing xs s n (rw f at e) k (omega arith) h) (cases_eq k n))
     (cases_Bool (is_state (row_at xs n) s))
 
--- a walk along the chain of the state's bucket has come to cur, past every node of that state that is not below lim
-pub record Walk (xs hs : List ℕ) (n : ℕ) (s : PackedState) (lim cur : ℕ) : Type 0 where
-  pub lim_le : lim ≤ n
-  pub passed : (i : ℕ) → i < n → is_state (row_at xs i) s ≡ true → i < lim
-  pub leads : Leads xs (length hs) lim (bucket_of s (length hs)) cur
+-- a node below n has its own number,
+node_is : (i n : ℕ) → i < n → node_of i n ≡ Some i
+node_is i n l = rw (lt-ltb i n l)
 
-pub walk_start : {xs hs : List ℕ} {n : ℕ} (s : PackedState) {cur : ℕ} → Chained xs hs n → cur ≡ get_or hs (bucket_of s (length hs)) 0 → Walk xs hs n s n cur
-walk_start {hs = hs} s ch e = record {
-  lim_le = omega arith;
-  passed = λ i l _. l;
-  leads = rw e (ch.heads (bucket_of s (length hs)) (bucket_lt s (length hs) ch.some));
+-- and no other
+node_below : (i n j : ℕ) → node_of i n ≡ Some j → j < n
+node_below i n j e =
+    ⊎_elim
+    (λ l. let q : i ≡ j = some_injective i j (sym (node_is i n l) ∙ e) in omega arith)
+    (λ g. cc (rw (le-ltb i n g) at e))
+    (cases_lt i n)
+
+-- a walk along the chain of the state's bucket has come to the node cur, which leads to every node of that state
+pub record Walk (xs hs : List ℕ) (n : ℕ) (s : PackedState) (cur : Option ℕ) : Type 0 where
+  pub within : (j : ℕ) → cur ≡ Some j → j < n
+  pub leads : (i : ℕ) → i < n → is_state (row_at xs i) s ≡ true → (j : ℕ) × (cur ≡ Some j) × Led xs (length hs) n (bucket_of s (length hs)) j i
+
+pub walk_start : {xs hs : List ℕ} {n : ℕ} (s : PackedState) {cur : Option ℕ} → Chained xs hs n → cur ≡ node_of (get_or hs (bucket_of s (length hs)) 0) n → Walk xs hs n s cur
+walk_start {xs} {hs} {n} s ch e = record {
+  within = λ j q. node_below _ n j (sym e ∙ q);
+  leads = λ i l si.
+      let b = bucket_of s (length hs) in
+      let d = ch.heads b (bucket_lt s (length hs) ch.some) i l (state_bucket xs (length hs) i s si) in
+      (get_or hs b 0, e ∙ node_is _ n d.below, d);
 }
 
-module _ {xs hs : List ℕ} {n : ℕ} {s : PackedState} {lim cur : ℕ} (ch : Chained xs hs n) (w : Walk xs hs n s lim cur) where
-  -- what has the state is below lim, and cur reaches it
-  reached : (i : ℕ) → i < n → is_state (row_at xs i) s ≡ true → Led xs (length hs) lim (bucket_of s (length hs)) cur i
-  reached i l e = w.leads i (w.passed i l e) (state_bucket xs (length hs) i s e)
+module _ {xs hs : List ℕ} {n : ℕ} {s : PackedState} {cur : Option ℕ} {i : ℕ} (ch : Chained xs hs n) (w : Walk xs hs n s cur) (at : cur ≡ Some i) where
+  -- node i reaches whatever has the state
+  reached : (k : ℕ) → k < n → is_state (row_at xs k) s ≡ true → Led xs (length hs) n (bucket_of s (length hs)) i k
+  reached k l e =
+      let t = w.leads k l e in
+      rw (some_injective i t.0 (sym at ∙ t.1)) t.2
 
-  pub walk_next : {t : Bool} → cur < lim → t ≡ is_state (row_at xs cur) s → t ≡ false → {to : ℕ} → to ≡ get_or xs (cur * 8 + 6) 0 → Walk xs hs n s cur to
-  walk_next l te f e = record {
-    lim_le = omega (arith, w.lim_le);
-    passed = λ i li si.
-        let ne : i ≢ cur = λ q. cc (ap (λ (k : ℕ). is_state (row_at xs k) s) q) in
-        omega (arith, (reached i li si).reach);
-    leads = λ i li b.
-        let h = (w.leads i (omega arith) b).bucket in
-        rw (e, ← h) (ch.nexts cur (omega (arith, w.lim_le)) i li (b ∙ sym h));
+  pub walk_next : {t : Bool} → t ≡ is_state (row_at xs i) s → t ≡ false → {to : Option ℕ} → to ≡ node_of (get_or xs (i * 8 + 6) 0) i → Walk xs hs n s to
+  walk_next te f e = record {
+    within = λ j q. omega (arith, node_below _ i j (sym e ∙ q), w.within i at);
+    leads = λ k l sk.
+        let h = reached k l sk in
+        let ne : k ≢ i = λ q. cc (ap (λ (j : ℕ). is_state (row_at xs j) s) q) in
+        let d = ch.nexts i (w.within i at) k (omega (arith, h.reach)) (state_bucket xs (length hs) k s sk ∙ sym h.bucket) in
+        let to = get_or xs (i * 8 + 6) 0 in
+        (to, e ∙ node_is _ i d.below, record { reach = d.reach; below = omega (arith, d.below, h.below); bucket = d.bucket ∙ h.bucket });
   }
 
-  pub walk_found : {t : Bool} → cur < lim → t ≡ is_state (row_at xs cur) s → t ≡ true → Some cur ≡ lookup (rows xs n) s
-  walk_found l te e = lookup_at xs s cur n (omega (arith, w.lim_le)) (cc) (λ i li si. (reached i li si).reach)
+  pub walk_found : {t : Bool} → t ≡ is_state (row_at xs i) s → t ≡ true → Some i ≡ lookup (rows xs n) s
+  walk_found te e = lookup_at xs s i n (w.within i at) (cc) (λ k l sk. (reached k l sk).reach)
 
-  pub walk_none : lim ≤ cur → None ≡ lookup (rows xs n) s
-  walk_none l = lookup_none xs s n (λ i li si. omega (arith, (reached i li si).below))
+pub walk_none : {xs hs : List ℕ} {n : ℕ} {s : PackedState} {cur : Option ℕ} → Walk xs hs n s cur → cur ≡ None → None ≡ lookup (rows xs n) s
+walk_none {xs} {hs} {n} {s} w end = lookup_none xs s n (λ i l si. cc ((w.leads i l si).1))
+
+-- how many nodes may still be seen
+abbrev pub left : Option ℕ → ℕ
+left None = 0
+left (Some i) = suc i
+
+pub fewer_left : (x i : ℕ) (cur to : Option ℕ) → cur ≡ Some i → to ≡ node_of x i → left to < left cur
+fewer_left x i cur None at e = rw at (omega arith)
+fewer_left x i cur (Some j) at e = let l : j < i = node_below x i j (sym e) in rw at (omega arith)
 
 -- ---- a node written
 

@@ -1,7 +1,7 @@
 -- What the node list means: the rows of the first n nodes, newest first, and what a look-up of a state in them gives. `Chained` is
 -- what ties the lists of numbers to it: each bucket's head, and each node's next, is the last node before it of the same bucket.
 -- Assumes nothing.
-use Rattle.std.specs.Prelude.{◌≡◌, Bool, ◌&&◌, cond, Option, Some, None, List, [], ◌∷◌, ℕ, zero, suc, ◌+◌, ◌*◌, ◌/◌, ◌%◌, ◌^◌, ◌≤◌, ◌<◌, min, length, get_or, set, eqb}
+use Rattle.std.specs.Prelude.{◌≡◌, Bool, ◌&&◌, cond, Option, Some, None, List, [], ◌∷◌, ℕ, zero, suc, ◌+◌, ◌*◌, ◌/◌, ◌%◌, ◌^◌, ◌≤◌, ◌<◌, min, length, get_or, set, eqb, nat_lt}
 use Rattle.std.specs.Int.Bits.{bit_xor}
 use Rattle.window.specs.declared.PackedState.{PackedState}
 use Rattle.nodes.specs.declared.Row.{Row}
@@ -52,6 +52,10 @@ bucket_of s m =
     mixed (bit_xor (bit_xor (bit_xor (s.lo % 4294967296 * 2654435769) (s.lo / 2 ^ 32 * 2246822519)) (s.hi % 4294967296 * 3266489917)) (s.hi / 2 ^ 32 * 668265263)) % 4294967296
     * min m 4294967295
     / 2 ^ 32
+
+-- the node of a number, if it is one of the first n
+abbrev pub node_of : ℕ → ℕ → Option ℕ
+node_of i n = cond (nat_lt i n) (Some i) None
 
 -- the bucket of the node at index i
 abbrev pub bucket_at : List ℕ → ℕ → ℕ → ℕ

@@ -1,10 +1,11 @@
 // The node list: a map from a state to what the search knows of it, in two lent lists of numbers. Node i stands at i * 8: the two
 // halves of its state, its cost, the two halves of its parent, its step, the next of its bucket, and a spare. `heads` has a bucket
-// at each place, and needs no clearing.
+// at each place, and needs no clearing. There is no heap memory, so the caller lends the two lists. They stand apart: a
+// struct of `&mut`s was tried in lists, and its contracts had to say more.
 #![tactic(auto)]
 
 ghost use Rattle.std.specs.Prelude.{◌≡◌, ℕ, ◌+◌, ◌*◌, ◌<◌, ◌≤◌, List, true, length, get_or};
-ghost use Rattle.nodes.specs.Nodes.{Chained, bucket_of, rows, lookup, written, row_at, is_state, Wrote};
+ghost use Rattle.nodes.specs.Nodes.{Chained, bucket_of, node_of, rows, lookup, written, row_at, is_state, Wrote};
 
 use window::PackedState;
 
@@ -41,20 +42,28 @@ fn has_state(nodes: &[u64], i: usize, state: PackedState) -> bool
     nodes[i * 8] == state.hi && nodes[i * 8 + 1] == state.lo
 }
 
-// The newest node of a bucket, if it is below the number of nodes.
-fn head(heads: &[u64], state: PackedState) -> usize
-    requires { 0 < length heads.now }
-    ensures { result ≡ get_or heads.now (bucket_of state (length heads.now)) 0 }
+// The node of a number, if it is one of the first n.
+fn node_of(number: u64, n: usize) -> Option<usize>
+    ensures { result ≡ node_of number n }
 {
-    heads[bucket(state, heads.len())] as usize
+    let i = number as usize;
+    (i < n).then_some(i)
 }
 
-// The node before node i in its bucket, if it is below i.
-fn next(nodes: &[u64], i: usize) -> usize
-    requires { i * 8 + 8 ≤ length nodes.now }
-    ensures { result ≡ get_or nodes.now (i * 8 + 6) 0 }
+// The newest node of a state's bucket, of the first n.
+fn head(heads: &[u64], n: usize, state: PackedState) -> Option<usize>
+    requires { 0 < length heads.now }
+    ensures { result ≡ node_of (get_or heads.now (bucket_of state (length heads.now)) 0) n }
 {
-    nodes[i * 8 + 6] as usize
+    node_of(heads[bucket(state, heads.len())], n)
+}
+
+// The node before node i in its bucket.
+fn next(nodes: &[u64], i: usize) -> Option<usize>
+    requires { i * 8 + 8 ≤ length nodes.now }
+    ensures { result ≡ node_of (get_or nodes.now (i * 8 + 6) 0) i }
+{
+    node_of(nodes[i * 8 + 6], i)
 }
 
 // The cost of node i.
@@ -90,14 +99,12 @@ pub fn find(nodes: &[u64], heads: &[u64], n: usize, state: PackedState) -> Optio
     requires { Chained nodes.now heads.now n }
     ensures { result ≡ lookup (rows nodes.now n) state }
 {
-    let mut lim = n;
-    let mut cur = head(heads, state);
-    while cur < lim {
-        if has_state(nodes, cur, state) {
-            return Some(cur);
+    let mut cur = head(heads, n, state);
+    while let Some(i) = cur {
+        if has_state(nodes, i, state) {
+            return cur;
         }
-        lim = cur;
-        cur = next(nodes, cur);
+        cur = next(nodes, i);
     }
     None
 }

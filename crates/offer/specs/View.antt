@@ -23,7 +23,7 @@ succ_of s = record { to = whole s.state; price = cost_of s.price; by = code_of s
 
 -- the bound, whether a plan is in hand, and the g of the last goal recorded
 abbrev pub hand_of : Held → Hand Cost
-hand_of h = record { bound = cost_of h.bound; have = h.have; last = option_map cost_of h.found }
+hand_of h = record { bound = cost_of h.bound.cost; have = h.bound.have; last = option_map cost_of h.found }
 
 -- the nodes and the open entries that are in use
 abbrev pub work_of : List ℕ → List ℕ → Sizes → Work Cost ℕ

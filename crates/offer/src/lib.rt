@@ -1,4 +1,5 @@
 // Offering a successor to the node list and the open list, and the plan in hand. Costs are numbers, gas * 2^32 + bytes.
+// The lent lists stand apart: a struct of `&mut`s was tried in lists, and its contracts had to say more.
 #![tactic(auto)]
 
 ghost use Rattle.std.specs.Prelude.{◌≡◌, ℕ, ◌+◌, ◌-◌, ◌*◌, ◌<◌, ◌≤◌, IfSome, length};
@@ -24,11 +25,17 @@ pub struct Successor {
     pub step: Step,
 }
 
-// The bound, which stands with a plan in hand and without one; whether there is a plan; and the cost of the last goal recorded.
+// The bound, and whether a plan is in hand: it stands with one and without one, so it is no Option.
+#[derive(Clone, Copy, PartialEq, Eq)]
+pub struct Bound {
+    pub cost: u64,
+    pub have: bool,
+}
+
+// The bound, and the cost of the last goal recorded.
 #[derive(Clone, Copy, PartialEq, Eq)]
 pub struct Held {
-    pub bound: u64,
-    pub have: bool,
+    pub bound: Bound,
     pub found: Option<u64>,
 }
 
@@ -59,10 +66,10 @@ pub fn add(a: u64, b: u64) -> u64
 pub fn cut(held: Held, f: u64) -> bool
     ensures { result ≡ cuts «gas_bytes» (hand_of held) (cost_of f) }
 {
-    if held.have {
-        held.bound <= f
+    if held.bound.have {
+        held.bound.cost <= f
     } else {
-        held.bound < f
+        held.bound.cost < f
     }
 }
 
@@ -71,12 +78,14 @@ pub fn cut(held: Held, f: u64) -> bool
 pub fn goal_drawn(held: Held, g: u64) -> Held
     ensures { hand_of result ≡ recorded «gas_bytes» (cost_of g) (hand_of held) }
 {
-    if held.have && held.bound <= g {
+    if held.bound.have && held.bound.cost <= g {
         return held;
     }
     Held {
-        bound: g,
-        have: true,
+        bound: Bound {
+            cost: g,
+            have: true,
+        },
         found: Some(g),
     }
 }

@@ -19,9 +19,9 @@ use Rattle.std.proofs.Common.{length-take-le}
 use Rattle.astar.specs.Search.{number}
 use Rattle.incumbent.specs.Hand.{held_of, held_with, origin_number}
 use Rattle.incumbent.specs.declared.Hand.{Hand}
-use Rattle.incumbent.specs.declared.Plan.{Plan as HeldPlan}
-use Rattle.incumbent.specs.declared.Origin.{Origin}
-use Rattle.incumbent.specs.declared.Origin.TheVariants.{DeleteTail, DupAndStar}
+use Rattle.incumbent.specs.declared.plans.Plan.{Plan as HeldPlan}
+use Rattle.incumbent.specs.declared.plans.Origin.{Origin}
+use Rattle.incumbent.specs.declared.plans.Origin.TheVariants.{DeleteTail, DupAndStar}
 use Rattle.planner.specs.Refusal.{Asked, Lent, narrow, plan_refusal}
 use Rattle.planner.specs.Planned.{question_of, listed, plan_held, before, answered, bare_of, fields_of, refused, given, planned_on, planned_for, WorkKept}
 use Rattle.planner.specs.Given.{answer_with}
@@ -87,7 +87,7 @@ held_given h held = go h.plan
 -- ---- the search's outcome
 
 -- a search with a hand, over a step list
-module _ (q : Question) (start : List ℕ) (l : Allowances) (h : Hand) (held : List ℕ) (have : Bool) (r : Outcome) (xs ys : List ℕ) (S : Searched q start l h.bound have r xs ys) (same : have ≡ is_some h.plan) where
+module _ (q : Question) (start : List ℕ) (l : Allowances) (h : Hand) (held : List ℕ) (bound : Cost) (have : Bool) (r : Outcome) (xs ys : List ℕ) (S : Searched q start l bound have r xs ys) (bounded : bound ≡ h.bound) (same : have ≡ is_some h.plan) where
   -- what it comes to
   abbrev found : Answered Cost ℕ
   found = searched gas_bytes (problem_of q start) (listed q.prices) 50 (held_of h held).bound (plan_held (held_of h held)) (allowance l)
@@ -98,7 +98,7 @@ module _ (q : Question) (start : List ℕ) (l : Allowances) (h : Hand) (held : L
   told_is : told (plan_held (held_of h held)) r ys ≡ found
   told_is =
       S.answer (plan_held (held_of h held)) (held_given h held ∙ sym same)
-      ∙ ap (λ (c : Cost). searched gas_bytes (problem_of q start) (listed q.prices) 50 c (plan_held (held_of h held)) (allowance l)) (sym (held_bound h held))
+      ∙ ap (λ (c : Cost). searched gas_bytes (problem_of q start) (listed q.prices) 50 c (plan_held (held_of h held)) (allowance l)) (bounded ∙ sym (held_bound h held))
 
   -- with a plan of its own
   pub searched_found : (p : SearchPlan) → r.plan ≡ Some p → (high : ℕ) → high ≡ highest q.rules (take p.steps ys) start →

@@ -3,11 +3,15 @@ use Rattle.std.specs.Prelude.{ℕ, List, ◌≡◌, Option, None, Some, Result, 
 use Rattle.costs.specs.Refusal.{number_of}
 use Rattle.costs.specs.declared.Refusal.{Refusal}
 use Rattle.costs.specs.declared.Cost.{Cost}
-use Rattle.replay.specs.Machine.{Rules}
+use Rattle.replay.specs.Machine.{Rules, rules_of}
+use Rattle.replay.specs.declared.rules.Task.{Task}
 use Rattle.astar.specs.Search.{number}
 use Rattle.astar.specs.Planner.{Found}
 use Rattle.incumbent.specs.Hand.{origin_number}
 use Rattle.run.specs.Ending.{ended_by}
+use Rattle.run.specs.View.{allowance}
+use Rattle.run.specs.declared.Allowances.{Allowances}
+use Rattle.planner.specs.Refusal.{Asked, asked}
 use Rattle.planner.specs.Planned.{bare_of, refused, given}
 use Rattle.planner.specs.declared.Answer.{Answer}
 use Rattle.planner.specs.declared.Source.{Source}
@@ -16,6 +20,10 @@ use Rattle.planner.specs.declared.Ending.{Ending}
 use Rattle.planner.specs.declared.Ending.TheVariants.{AtGoal, NoExpansion, Searched}
 use Rattle.planner.specs.declared.ModelPlan.{ModelPlan}
 use Rattle.planner.specs.declared.Planned.{Planned}
+
+-- what a task asks under its allowances
+abbrev pub task_asked : Task → Allowances → Asked
+task_asked t a = asked (rules_of t.rules) t.prices.now t.start.now t.goal.now (allowance a)
 
 -- the number of the field origin
 abbrev pub source_number : Source → ℕ

@@ -1,11 +1,11 @@
 -- The planner's question, and the numbers that refuse it.
-use Rattle.std.specs.Prelude.{ℕ, ◌+◌, ◌/◌, max, Bool, ◌||◌, List, ◌≡◌, ltb, length}
-use Rattle.std.proofs.Common.{◌∙◌}
+use Rattle.std.specs.Prelude.{ℕ, ◌+◌, ◌/◌, max, Bool, ◌||◌, List, ◌≡◌, refl, ltb, length}
 use Rattle.costs.specs.Choice.{◌if◌otherwise◌}
 use Rattle.costs.specs.Table.{any_over, kinds_fault, prices_fault}
 use Rattle.replay.specs.Machine.{Rules}
-use Rattle.replay.specs.Beneath.{narrowed, too_tall, window_above, Footing, footing}
+use Rattle.replay.specs.Beneath.{narrowed, too_tall, Footing, footing}
 use Rattle.replay.specs.Replay.{reach_fault}
+use Rattle.replay.specs.Rows.{first_rows, key_rows, then_rows, first_over, four_over, keys_over}
 use Rattle.astar.specs.Search.{Allowance}
 
 -- what a question has (document 01, "A question comes in"): reaches, greatest length, kinds and the items beneath (request U3); prices; start
@@ -87,17 +87,21 @@ plan_table on a l =
 abbrev pub plan_refusal : Asked → Lent → ℕ
 plan_refusal a l = plan_table (footing_of a) a l
 
--- the rows put together, the last first
-pub assembled : (a : Asked) (l : Lent) (short len table allowance window r : ℕ) (b₇ b₃ b₁ : Bool) →
-    b₇ ≡ short_lists a.allowance l →
-    short ≡ (7 if b₇ otherwise 0) →
-    len ≡ window_above a.rules.max_len a.rules.beneath →
-    table ≡ (4 if kinds_fault a.rules.kinds || prices_fault a.prices otherwise (5 if any_over 63 a.start || any_over 63 a.goal otherwise (12 if too_tall a.rules.beneath (length a.start) otherwise (6 if over_length a.rules.swap_max len (length a.start) || over_length a.rules.swap_max len (length a.goal) otherwise short)))) →
-    b₃ ≡ allowance_fault a.allowance →
-    allowance ≡ (3 if b₃ otherwise table) →
-    window ≡ (2 if ltb 21 a.rules.max_len otherwise allowance) →
-    b₁ ≡ reach_fault a.rules.dup_max a.rules.swap_max →
-    r ≡ (1 if b₁ otherwise window) →
-    r ≡ plan_refusal a l
-unfolding plan_table
-assembled a l short len table allowance window r b₇ b₃ b₁ h₇ hs hl ht h₃ ha hw h₁ hr = hr ∙ rw (h₁, hw, ha, h₃, ht, hl, hs, h₇)
+-- ---- laws
+
+-- the table in parts: the rows that it shares with other tables, row 4 of the prices between them, and the last
+pub plan_parts : (a : Asked) (l : Lent) →
+    plan_refusal a l
+    ≡ then_rows (first_rows a.rules (allowance_fault a.allowance)) (4 if prices_fault a.prices otherwise then_rows (key_rows a.rules a.start a.goal (too_long (narrowed a.rules) a.start || too_long (narrowed a.rules) a.goal)) (7 if short_lists a.allowance l otherwise 0))
+unfolding plan_table first_rows key_rows
+plan_parts a l =
+    let five = any_over 63 a.start || any_over 63 a.goal in
+    let twelve = too_tall a.rules.beneath (length a.start) in
+    let six = too_long (narrowed a.rules) a.start || too_long (narrowed a.rules) a.goal in
+    let last : ℕ = 7 if short_lists a.allowance l otherwise 0 in
+    rw (
+      four_over (kinds_fault a.rules.kinds) (prices_fault a.prices) (5 if five otherwise 12 if twelve otherwise 6 if six otherwise last),
+      keys_over five twelve six last,
+      ← first_over (reach_fault a.rules.dup_max a.rules.swap_max) (ltb 21 a.rules.max_len) (allowance_fault a.allowance) (kinds_fault a.rules.kinds) (4 if prices_fault a.prices otherwise then_rows (5 if five otherwise 12 if twelve otherwise 6 if six otherwise 0) last),
+    )
+    refl

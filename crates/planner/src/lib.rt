@@ -3,20 +3,23 @@
 
 ghost use Rattle.std.specs.Prelude.{◌≡◌, ◌||◌, ◌+◌, ◌≤◌, max, ltb, length};
 ghost use Rattle.costs.specs.Refusal.{number_of, refusal_of};
-ghost use Rattle.replay.specs.Machine.{plain_rules, above, ruled, rules_of};
-ghost use Rattle.replay.specs.Beneath.{window_above};
-ghost use Rattle.incumbent.specs.Hand.{held_of, Few};
+ghost use Rattle.replay.specs.Machine.{plain_rules, above, rules_of};
+ghost use Rattle.replay.specs.Rows.{given_by};
+ghost use Rattle.replay.specs.Beneath.{window_above, narrowed};
+ghost use Rattle.incumbent.specs.Hand.{held_of};
 ghost use Rattle.algebra.specs.GasBytes.{«gas_bytes»};
 ghost use Rattle.astar.specs.Planner.{searched};
 ghost use Rattle.problem.specs.Problem.{problem_of};
-ghost use Rattle.planner.specs.Refusal.{asked, allowances, lent, allowance_fault, over_length, short_lists, plan_refusal};
+ghost use Rattle.planner.specs.Refusal.{asked, allowances, lent, allowance_fault, over_length, too_long, short_lists, plan_refusal};
 ghost use Rattle.planner.specs.Accepted.{Accepted};
 ghost use Rattle.planner.specs.Planned.{question_of, listed, bare_of, refused, plan_held, answered, given, planned_for, WorkKept};
-ghost use Rattle.planner.specs.Given.{source_number, ending_number, answer_of, answered_of, Gives, start_given};
+ghost use Rattle.planner.specs.Given.{source_number, ending_number, answer_of, answered_of, Gives, start_given, task_asked};
+ghost use Rattle.run.specs.View.{allowance};
 
 use costs::{Cost, Refusal};
 use incumbent::{Hand, Origin};
-use replay::{Rules, SearchCfg};
+use offer::Bound;
+use replay::{Given, Rules, SearchCfg, Task};
 pub use run::Allowances;
 
 // What the planner answers: the number of a refusal or 0, document 01's nine fields, and the plan's highest window. Numbers,
@@ -147,6 +150,17 @@ impl From<Refusal> for Answer {
     }
 }
 
+impl From<Result<Planned, Refusal>> for Answer {
+    ghost from_gives = { λ outcome answer. answer ≡ answered_of outcome };
+
+    fn from(outcome: Result<Planned, Refusal>) -> Answer {
+        match outcome {
+            Ok(planned) => Answer::from(planned),
+            Err(refusal) => Answer::from(refusal),
+        }
+    }
+}
+
 // The lengths of the lent lists.
 #[derive(Clone, Copy)]
 pub struct Lengths {
@@ -166,11 +180,18 @@ fn allowance_fault(a: Allowances) -> bool
 
 // Row 6, of a window of n keys: it reads the window that the items beneath leave.
 #[tactic(auto, unfolding(crate::specs::Refusal::over_length))]
-fn too_long(cfg: SearchCfg, beneath: usize, n: usize) -> bool
-    ensures { result ≡ over_length cfg.swap_max (window_above cfg.max_len beneath) n }
+fn over_length(given: Given<'_>, n: usize) -> bool
+    ensures { result ≡ over_length given.entry.cfg.swap_max (window_above given.entry.cfg.max_len given.entry.beneath) n }
 {
-    let narrow = replay::narrowed(cfg, beneath);
-    cfg.swap_max < n || narrow.max_len < n
+    let narrow = replay::narrowed(given.cfg, given.beneath);
+    given.cfg.swap_max < n || narrow.max_len < n
+}
+
+// The same of the start and the goal.
+fn too_long(given: Given<'_>, start: &[u8], goal: &[u8]) -> bool
+    ensures { result ≡ (too_long (narrowed (given_by given.entry)) start.now || too_long (narrowed (given_by given.entry)) goal.now) }
+{
+    over_length(given, start.len()) || over_length(given, goal.len())
 }
 
 // Fewer entries than the larger state allowance plus 50.
@@ -192,44 +213,24 @@ fn short_lists(a: Allowances, l: Lengths) -> bool
         || l.steps < 128_usize.max(a.max_expansions)
 }
 
-// Refusals 1 to 7, and 12 before 6. All that a call is given, since each row of the table reads another part of it.
-#[tactic(auto, unfolding(crate::specs::Refusal::plan_table))]
+// Refusals 1 to 7, and 12 before 6.
 fn check(
     start: &[u8],
     goal: &[u8],
-    cfg: SearchCfg,
-    beneath: usize,
+    given: Given<'_>,
     a: Allowances,
-    kinds: &[u8],
     prices: &[u32],
     l: Lengths,
 ) -> Result<(), Refusal>
     ensures { refusal_of result ≡ plan_refusal
-        (asked (above beneath (ruled cfg kinds.now)) prices.now start.now goal.now
-        (allowances a.max_expansions a.states_without a.states_with))
+        (asked (given_by given.entry) prices.now start.now goal.now (allowances a.max_expansions a.states_without a.states_with))
         (lent l.steps l.nodes l.heads l.list) }
 {
-    if replay::reach_fault(cfg.dup_max, cfg.swap_max) {
-        return Err(Refusal::Reach);
-    }
-    if 21 < cfg.max_len {
-        return Err(Refusal::Window);
-    }
-    if allowance_fault(a) {
-        return Err(Refusal::Allowance);
-    }
-    if costs::kinds_fault(kinds) || costs::prices_fault(prices) {
+    given.check(allowance_fault(a))?;
+    if costs::prices_fault(prices) {
         return Err(Refusal::Table);
     }
-    if costs::any_over(start, 63) || costs::any_over(goal, 63) {
-        return Err(Refusal::Key);
-    }
-    if replay::too_tall(beneath, start.len()) {
-        return Err(Refusal::Stack);
-    }
-    if too_long(cfg, beneath, start.len()) || too_long(cfg, beneath, goal.len()) {
-        return Err(Refusal::Length);
-    }
+    given.check_keys(start, goal, too_long(given, start, goal))?;
     if short_lists(a, l) {
         return Err(Refusal::ShortList);
     }
@@ -254,19 +255,13 @@ fn no_steps(n: usize) -> Planned
 }
 
 // The builders' plan, if there is one, over the first places of the step list.
-fn give_held(
-    hand: Hand,
-    held: &[u16],
-    rules: Rules<'_>,
-    start: &[u8],
-    steps: &mut [u16],
-) -> Option<ModelPlan>
-    requires { Few hand × (128 ≤ length held.now) × (128 ≤ length steps.old) }
-    ensures { Gives (rules_of rules.entry) start.now (plan_held (held_of hand held.now)) result steps.old steps.new }
+// The hand and its steps are apart, since a moved `ArrayVec` of 128 steps took the planner above its bar of speed.
+// The caller's step list may be longer than 128, so it is no array.
+fn give_held(hand: Hand, held: &[u16; 128], task: &Task<'_>, steps: &mut [u16]) -> Option<ModelPlan>
+    requires { 128 ≤ length steps.old }
+    ensures { Gives (rules_of task.now.rules) task.now.start.now (plan_held (held_of hand held.now)) result steps.old steps.new }
 {
-    let Some(plan) = hand.plan else {
-        return None;
-    };
+    let plan = hand.plan?;
     let codes = &held[..plan.count];
     steps[..plan.count].copy_from_slice(codes);
     Some(ModelPlan {
@@ -274,45 +269,43 @@ fn give_held(
         count: plan.count,
         cost: hand.bound,
         ceiling: hand.bound,
-        highest: rules.highest(start, codes),
+        highest: task.rules.highest(task.start, codes),
     })
 }
 
 // The search, and the builders' plan where it finds none.
+// The hand and its steps are apart, as in `give_held`. The lists that are lent stay four parameters, here and below: the check lends no two
+// fields of a struct behind a reference at once.
 fn with_search(
     nodes: &mut [u64],
     heads: &mut [u64],
     list: &mut [u64],
     steps: &mut [u16],
-    start: &[u8],
-    goal: &[u8],
-    rules: Rules<'_>,
-    prices: &[u32],
+    task: &Task<'_>,
     a: Allowances,
     hand: Hand,
-    held: &[u16],
+    held: &[u16; 128],
 ) -> Planned
-    requires accepted { Accepted (asked (rules_of rules) prices.now start.now goal.now (allowances a.max_expansions a.states_without a.states_with))
-        (lent (length steps.old) (length nodes.old) (length heads.old) (length list.old)) }
-    requires in_hand { Few hand × (128 ≤ length held.now) }
-    ensures { (answer_of result, steps.new) ≡ given (rules_of rules.entry) start.now
-        (searched «gas_bytes» (problem_of (record { rules = rules_of rules.entry; prices = prices.now; goal = goal.now }) start.now) (listed prices.now) 50
-        (held_of hand held.now).bound (plan_held (held_of hand held.now)) (allowances a.max_expansions a.states_without a.states_with))
+    requires { Accepted (task_asked task.now a) (lent (length steps.old) (length nodes.old) (length heads.old) (length list.old)) }
+    ensures { (answer_of result, steps.new) ≡ given (rules_of task.now.rules) task.now.start.now
+        (searched «gas_bytes» (problem_of (question_of (task_asked task.now a)) task.now.start.now) (listed task.now.prices.now) 50
+        (held_of hand held.now).bound (plan_held (held_of hand held.now)) (allowance a))
         steps.old }
 {
-    let have = hand.plan.is_some();
-    let came = solve::search_from(
-        nodes, heads, list, steps, start, goal, rules, prices, a, hand.bound, have,
-    );
+    let bound = Bound {
+        cost: u64::from(hand.bound),
+        have: hand.plan.is_some(),
+    };
+    let came = solve::search_from(nodes, heads, list, steps, task, a, bound);
     let plan = match came.plan {
         Some(plan) => Some(ModelPlan {
             source: Source::Search,
             count: plan.steps,
             cost: plan.cost,
             ceiling: plan.ceiling,
-            highest: rules.highest(start, &steps[..plan.steps]),
+            highest: task.rules.highest(task.start, &steps[..plan.steps]),
         }),
-        None => give_held(hand, held, rules, start, steps),
+        None => give_held(hand, held, task, steps),
     };
     Planned {
         plan,
@@ -327,52 +320,41 @@ fn accepted_plan(
     heads: &mut [u64],
     list: &mut [u64],
     steps: &mut [u16],
-    start: &[u8],
-    goal: &[u8],
-    rules: Rules<'_>,
-    prices: &[u32],
+    task: &Task<'_>,
     a: Allowances,
 ) -> Planned
-    requires { Accepted (asked (rules_of rules) prices.now start.now goal.now (allowances a.max_expansions a.states_without a.states_with))
-        (lent (length steps.old) (length nodes.old) (length heads.old) (length list.old)) }
-    ensures { (answer_of result, steps.new) ≡ given (rules_of rules.entry) start.now
-        (answered (asked (rules_of rules.entry) prices.now start.now goal.now (allowances a.max_expansions a.states_without a.states_with)))
-        steps.old }
+    requires { Accepted (task_asked task.now a) (lent (length steps.old) (length nodes.old) (length heads.old) (length list.old)) }
+    ensures { (answer_of result, steps.new) ≡ given (rules_of task.now.rules) task.now.start.now (answered (task_asked task.now a)) steps.old }
 {
-    if start == goal {
-        return no_steps(start.len());
+    if task.start == task.goal {
+        return no_steps(task.start.len());
     }
     let mut held = [0; 128];
-    let hand = incumbent::in_hand(start, goal, rules, prices, &mut held);
+    let hand = incumbent::in_hand(task, &mut held);
     if a.max_expansions == 0 {
         return Planned {
-            plan: give_held(hand, &held, rules, start, steps),
+            plan: give_held(hand, &held, task, steps),
             ending: Ending::NoExpansion,
             expansions: 0,
         };
     }
-    with_search(
-        nodes, heads, list, steps, start, goal, rules, prices, a, hand, &held,
-    )
+    with_search(nodes, heads, list, steps, task, a, hand, &held)
 }
 
 // As `plan`, or why it is refused.
-fn try_plan(
-    start: &[u8],
-    goal: &[u8],
-    given: SearchCfg,
-    beneath: usize,
+fn try_plan<'a>(
+    start: &'a [u8],
+    goal: &'a [u8],
+    given: Given<'a>,
     a: Allowances,
-    kinds: &[u8],
-    prices: &[u32],
+    prices: &'a [u32],
     steps: &mut [u16],
     nodes: &mut [u64],
     heads: &mut [u64],
     list: &mut [u64],
 ) -> Result<Planned, Refusal>
     ensures steps_after { (answered_of result, steps.new) ≡ planned_for
-        (asked (above beneath (ruled given kinds.now)) prices.now start.now goal.now
-        (allowances a.max_expansions a.states_without a.states_with))
+        (asked (given_by given.entry) prices.now start.now goal.now (allowances a.max_expansions a.states_without a.states_with))
         (lent (length steps.old) (length nodes.old) (length heads.old) (length list.old))
         steps.old }
     ensures work_kept { WorkKept (refusal_of result) nodes.old nodes.new × WorkKept (refusal_of result) heads.old heads.new × WorkKept (refusal_of result) list.old list.new }
@@ -383,12 +365,14 @@ fn try_plan(
         heads: heads.len(),
         list: list.len(),
     };
-    check(start, goal, given, beneath, a, kinds, prices, lent)?;
-    let rules = Rules {
-        cfg: replay::narrowed(given, beneath),
-        kinds,
+    check(start, goal, given, a, prices, lent)?;
+    let task = Task {
+        start,
+        goal,
+        rules: given.narrowed(),
+        prices,
     };
-    Ok(accepted_plan(nodes, heads, list, steps, start, goal, rules, prices, a))
+    Ok(accepted_plan(nodes, heads, list, steps, &task, a))
 }
 
 // The model plan of a question, over the first places of the step list, and its pass mark; or the number that refuses it. It is worked out
@@ -417,21 +401,20 @@ pub fn plan(
         steps.old }
     ensures work_kept { WorkKept result.refusal nodes.old nodes.new × WorkKept result.refusal heads.old heads.new × WorkKept result.refusal list.old list.new }
 {
-    let given = SearchCfg {
+    let cfg = SearchCfg {
         dup_max,
         swap_max,
         max_len,
+    };
+    let given = Given {
+        cfg,
+        beneath,
+        kinds,
     };
     let a = Allowances {
         max_expansions,
         states_without,
         states_with,
     };
-    let answer = try_plan(
-        start, goal, given, beneath, a, kinds, prices, steps, nodes, heads, list,
-    );
-    match answer {
-        Ok(planned) => Answer::from(planned),
-        Err(refusal) => Answer::from(refusal),
-    }
+    Answer::from(try_plan(start, goal, given, a, prices, steps, nodes, heads, list))
 }

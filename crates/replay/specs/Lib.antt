@@ -1,6 +1,7 @@
 pub mod Machine
 pub mod Beneath
 pub mod Replay
+pub mod Rows
 pub mod Laws
 pub mod Held
 pub mod Worked

@@ -18,6 +18,7 @@ pub struct Retraced {
 
 // Replays steps above so many items and, where no number refuses them, steps back from the end window and with the popped keys that were
 // written. Lists have any length and contents. With 21 places for it, stepping back then gives the start.
+// The numbers of document 01's call, one by one, as C passes them.
 pub fn retrace(
     start: &[u8],
     steps: &[u16],

@@ -1,5 +1,5 @@
 -- Laws of stepping back's refusals.
-use Rattle.std.specs.Prelude.{ℕ, ◌≤◌, Bool, false, ◌||◌, List, ◌≡◌, ltb, length}
+use Rattle.std.specs.Prelude.{ℕ, ◌≤◌, Bool, false, ◌||◌, List, ◌≡◌, refl, ltb, length}
 use Rattle.std.proofs.Common.{ap, ◌∙◌, arith, ltb-false, le-ltb, ne_eqb}
 use Rattle.costs.specs.Choice.{◌if◌otherwise◌}
 use Rattle.costs.specs.Laws.{or_left, passed, kinds_length}
@@ -8,6 +8,7 @@ use Rattle.replay.specs.Machine.{Rules}
 use Rattle.replay.specs.Beneath.{narrowed, too_tall, narrowed_most, narrowed_fits}
 use Rattle.replay.specs.Replay.{reach_fault}
 use Rattle.replay.specs.Laws.{Head, or_rest}
+use Rattle.replay.specs.Rows.{first_rows, key_rows, then_rows, first_over, keys_over}
 use Rattle.rewind.specs.Walk.{start_before}
 use Rattle.rewind.specs.Rewind.{rewind_table, rewind_refusal, refused, found, rewound_on, rewound}
 
@@ -63,3 +64,14 @@ rewound_refused q end steps popped result n e h = rw (← e, ne_eqb n 0 h)
 pub rewound_accepted : (q : Rules) (end steps popped result : List ℕ) → rewind_refusal q end (length steps) popped (length result) ≡ 0 → rewound q end steps popped result ≡ found (start_before (narrowed q) end steps popped) result
 unfolding rewound_on
 rewound_accepted q end steps popped result e = rw e
+
+-- the table in parts: the rows that it shares with other tables, and the last
+pub rewind_parts : (q : Rules) (end : List ℕ) (steps : ℕ) (popped : List ℕ) (places : ℕ) →
+    rewind_refusal q end steps popped places ≡ then_rows (first_rows q (ltb 65536 steps)) (then_rows (key_rows q end popped (ltb q.max_len (length end))) (7 if ltb places 21 otherwise 0))
+unfolding rewind_table first_rows key_rows
+rewind_parts q end steps popped places =
+    rw (
+      ← keys_over (any_over 63 end || any_over 63 popped) (too_tall q.beneath (length end)) (ltb q.max_len (length end)) (7 if ltb places 21 otherwise 0),
+      ← first_over (reach_fault q.dup_max q.swap_max) (ltb 21 q.max_len) (ltb 65536 steps) (kinds_fault q.kinds) (5 if any_over 63 end || any_over 63 popped otherwise 12 if too_tall q.beneath (length end) otherwise 6 if ltb q.max_len (length end) otherwise 7 if ltb places 21 otherwise 0),
+    )
+    refl

@@ -9,7 +9,8 @@ ghost use Rattle.costs.specs.Refusal.{refusal_of};
 ghost use Rattle.costs.specs.Step.{decoded};
 ghost use Rattle.window.specs.Pack.{Keys};
 ghost use Rattle.window.specs.Keys.{keys_of, Window};
-ghost use Rattle.replay.specs.Machine.{plain_rules, above, ruled, rules_of};
+ghost use Rattle.replay.specs.Machine.{plain_rules, above, rules_of};
+ghost use Rattle.replay.specs.Rows.{given_by};
 ghost use Rattle.replay.specs.Laws.{Ready};
 ghost use Rattle.rewind.specs.Walk.{put_by, regrown, ungrown, unswapped, back_over, back_on, start_before};
 ghost use Rattle.rewind.specs.Held.{back_of, rewound_of};
@@ -18,7 +19,7 @@ ghost use Rattle.rewind.specs.Led.{SteppedBack};
 
 use back::Back;
 use costs::{Refusal, Step};
-use replay::{Rules, SearchCfg};
+use replay::{Given, Rules, SearchCfg};
 use window::PackedState;
 
 // What stepping back answers: the number of a refusal or 0, the start's length. Numbers, since C gets it.
@@ -29,21 +30,19 @@ pub struct Rewound {
     pub length: usize,
 }
 
-// The key that a step puts on top of a window, 0 for a step that puts none.
+// The key that a step puts on top of a window, 0 for a step that puts none. No Option: it is asked of steps that put one, and `put_by` is a number.
 fn key_put(state: PackedState, step: Step) -> u8
     requires { Window state × Ready step (length (keys_of state)) }
     ensures { result ≡ put_by step (keys_of state) }
 {
     match step {
-        Step::Pop => 0,
+        Step::Pop | Step::Swap(_) => 0,
         Step::Dup(p) => state.get(p as usize),
-        Step::Swap(_) => 0,
-        Step::PushImm(k) => k,
-        Step::LoadVal(k) => k,
+        Step::PushImm(k) | Step::LoadVal(k) => k,
     }
 }
 
-// Back over a Pop.
+// Back over a Pop. Here and below the rules stay and the place moves, so the two go side by side.
 fn put_back<'a>(rules: Rules<'_>, at: Back<'a>) -> Option<Back<'a>>
     ensures { option_map back_of result ≡ regrown rules.entry.cfg.max_len (keys_of at.entry.state) (reverse at.entry.left.now) }
 {
@@ -100,10 +99,8 @@ fn undo<'a>(rules: Rules<'_>, at: Back<'a>, step: Step) -> Option<Back<'a>>
 {
     match step {
         Step::Pop => put_back(rules, at),
-        Step::Dup(_) => take_off(rules, at, step),
         Step::Swap(_) => swap_back(rules, at, step),
-        Step::PushImm(_) => take_off(rules, at, step),
-        Step::LoadVal(_) => take_off(rules, at, step),
+        Step::Dup(_) | Step::PushImm(_) | Step::LoadVal(_) => take_off(rules, at, step),
     }
 }
 
@@ -124,51 +121,40 @@ fn walk_back(rules: Rules<'_>, end: Back<'_>, steps: &[u16]) -> Option<PackedSta
     for &code in steps.iter().rev() {
         at = step_back(rules, at, code)?;
     }
-    if at.left.is_empty() {
-        Some(at.state)
-    } else {
-        None
-    }
+    at.left.is_empty().then_some(at.state)
 }
 
-// Refusals 1 to 7, and 12 before 6. All that a call is given, since each row of the table reads another part of it.
-#[tactic(auto, unfolding(crate::specs::Rewind::rewind_table))]
+// Refusals 1 to 7, and 12 before 6.
 fn check(
-    cfg: SearchCfg,
-    beneath: usize,
+    given: Given<'_>,
     end: &[u8],
     steps: usize,
     popped: &[u8],
-    kinds: &[u8],
     places: usize,
 ) -> Result<(), Refusal>
-    ensures { refusal_of result ≡ rewind_refusal (above beneath (ruled cfg kinds.now)) end.now steps popped.now places }
+    ensures { refusal_of result ≡ rewind_refusal (given_by given.entry) end.now steps popped.now places }
 {
-    if replay::reach_fault(cfg.dup_max, cfg.swap_max) {
-        return Err(Refusal::Reach);
-    }
-    if 21 < cfg.max_len {
-        return Err(Refusal::Window);
-    }
-    if 65536 < steps {
-        return Err(Refusal::Allowance);
-    }
-    if costs::kinds_fault(kinds) {
-        return Err(Refusal::Table);
-    }
-    if costs::any_over(end, 63) || costs::any_over(popped, 63) {
-        return Err(Refusal::Key);
-    }
-    if replay::too_tall(beneath, end.len()) {
-        return Err(Refusal::Stack);
-    }
-    if cfg.max_len < end.len() {
-        return Err(Refusal::Length);
-    }
+    given.check(65536 < steps)?;
+    given.check_keys(end, popped, given.cfg.max_len < end.len())?;
     if places < 21 {
         return Err(Refusal::ShortList);
     }
     Ok(())
+}
+
+// Beside a refusal the length is zero. C gets star_swap's `Written` by other names, so each struct has its `From`.
+impl From<Result<usize, Refusal>> for Rewound {
+    ghost from_gives = { λ answer rewound. rewound ≡ rewound_of answer };
+
+    fn from(answer: Result<usize, Refusal>) -> Rewound {
+        match answer {
+            Ok(length) => Rewound { refusal: 0, length },
+            Err(refusal) => Rewound {
+                refusal: refusal.number(),
+                length: 0,
+            },
+        }
+    }
 }
 
 // The start's length, with the start over the first places of the result list, or why there is none.
@@ -176,18 +162,13 @@ fn try_rewind(
     end: &[u8],
     steps: &[u16],
     popped: &[u8],
-    given: SearchCfg,
-    beneath: usize,
-    kinds: &[u8],
+    given: Given<'_>,
     res: &mut [u8],
 ) -> Result<usize, Refusal>
-    ensures { (rewound_of result, res.new) ≡ rewound (above beneath (ruled given kinds.now)) end.now steps.now popped.now res.old }
+    ensures { (rewound_of result, res.new) ≡ rewound (given_by given.entry) end.now steps.now popped.now res.old }
 {
-    check(given, beneath, end, steps.len(), popped, kinds, res.len())?;
-    let rules = Rules {
-        cfg: replay::narrowed(given, beneath),
-        kinds,
-    };
+    check(given, end, steps.len(), popped, res.len())?;
+    let rules = given.narrowed();
     let end = Back {
         state: PackedState::from_ids(end),
         left: popped,
@@ -198,6 +179,7 @@ fn try_rewind(
 
 // The start from which the steps lead, above so many items, to the end window with these keys popped: its length, with the start over the
 // first places of the result list. The walk back goes by the narrowed rules (law `may_grow`).
+// The numbers of document 01's call, one by one, as C passes them.
 pub fn rewind(
     end: &[u8],
     steps: &[u16],
@@ -212,16 +194,15 @@ pub fn rewind(
     ensures res_after { (result, res.new) ≡ rewound (above beneath (plain_rules dup_max swap_max max_len kinds.now)) end.now steps.now popped.now res.old }
     ensures stepped_back { SteppedBack (above beneath (plain_rules dup_max swap_max max_len kinds.now)) end.now steps.now popped.now res.old (result, res.new) }
 {
-    let given = SearchCfg {
+    let cfg = SearchCfg {
         dup_max,
         swap_max,
         max_len,
     };
-    match try_rewind(end, steps, popped, given, beneath, kinds, res) {
-        Ok(length) => Rewound { refusal: 0, length },
-        Err(refusal) => Rewound {
-            refusal: refusal.number(),
-            length: 0,
-        },
-    }
+    let given = Given {
+        cfg,
+        beneath,
+        kinds,
+    };
+    Rewound::from(try_rewind(end, steps, popped, given, res))
 }

@@ -84,7 +84,7 @@ module _ {q : Question} (b : Bounds q) {a : Ask} {l : Allowances} {s₀ : Search
   unfolding sort
   ended_drained e = ran Drained (turn_drained gas_bytes Q A s (ap (queue_of os) e))
 
-  module _ {e : Waiting} {ps : List ℕ} (T : Taken os at.list e ps (at.list - 1)) where
+  module _ {e : Waiting ℕ} {ps : List ℕ} (T : Taken os at.list e ps (at.list - 1)) where
     abbrev left : Sizes
     left = record { nodes = at.nodes; list = at.list - 1 }
 
@@ -122,7 +122,7 @@ module _ {q : Question} (b : Bounds q) {a : Ask} {l : Allowances} {s₀ : Search
             pub ended_cut : u ≡ true → Ran q a l s₀ xs hs (record { held = h; nodes = at.nodes; count = k; ending = CutOff })
             ended_cut y = ran CutOff (turn_cut gas_bytes Q A s (waits e) es T.taken (node_is v) f fresh no_goal (sym uE ∙ y))
 
-            module _ (m : u ≡ false) {room : ℕ} (roomE : room ≡ cond h.have l.states_with l.states_without) {o : Bool} (oE : o ≡ (ltb room at.nodes || ltb room (at.list - 1))) where
+            module _ (m : u ≡ false) {room : ℕ} (roomE : room ≡ cond h.bound.have l.states_with l.states_without) {o : Bool} (oE : o ≡ (ltb room at.nodes || ltb room (at.list - 1))) where
               over_is : over gas_bytes Q A (without gas_bytes Q es s) ≡ o
               unfolding over
               over_is = rw (← roomE, length_rows at.nodes (node_at xs), queue_length ps (at.list - 1)) (sym oE)

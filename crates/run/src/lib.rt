@@ -1,4 +1,5 @@
 // A run of the search over lent lists: each pass of its loop is one turn of document 01.
+// The lent lists stand apart: a struct of `&mut`s was tried in lists, and its contracts had to say more.
 #![tactic(auto)]
 
 ghost use Rattle.std.specs.Prelude.{◌≡◌, cond, ◌||◌, ltb};
@@ -65,9 +66,9 @@ impl From<Ending> for u32 {
 impl Allowances {
     // The states that are allowed with the present hand.
     fn states(self, held: Held) -> usize
-        ensures { result ≡ cond held.have self.states_with self.states_without }
+        ensures { result ≡ cond held.bound.have self.states_with self.states_without }
     {
-        if held.have {
+        if held.bound.have {
             self.states_with
         } else {
             self.states_without
@@ -102,6 +103,7 @@ pub fn run(
     let mut at = sizes;
     let mut held = first;
     let mut count = 0;
+    // A loop, since a turn is left from several places; it counts expansions and no index.
     let ending = 'turns: loop {
         if at.list == 0 {
             break 'turns Ending::Drained;

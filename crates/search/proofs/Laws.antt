@@ -49,7 +49,7 @@ module _ (x : Question) where
   }
 
   -- of a state that is drawn, from its entry
-  module _ (e : Waiting) (A : Awaits (posed x) (waits e)) where
+  module _ (e : Waiting ℕ) (A : Awaits (posed x) (waits e)) where
     abbrev left : ℕ
     left = estimate x.asked.prices.now x.asked.cfg.dup_max x.asked.goal.now (keys_of e.state)
 

@@ -48,5 +48,5 @@ pub record Awaits (q : Posed) (e : Entry Cost) : Type 0 where
   pub summed : e.f ≡ gas_bytes.◌⊞◌ e.g ((problem_of q []).est e.state)
 
 -- the state of an open entry, and its cost
-abbrev pub origin_of : Waiting → Origin
+abbrev pub origin_of : Waiting ℕ → Origin
 origin_of e = record { state = e.state; cost = e.g }

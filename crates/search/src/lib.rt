@@ -1,4 +1,5 @@
 // The expansion of a state: its successors, each offered to the lists.
+// The lent lists stand apart: a struct of `&mut`s was tried in lists, and its contracts had to say more.
 #![tactic(auto)]
 
 ghost use Rattle.std.specs.Prelude.{◌≡◌, [], map, ◌≤◌, length};
@@ -24,7 +25,7 @@ pub struct Question<'a> {
     ghost ready: { Ready asked weights } by { ready_prop asked weights },
 }
 
-// The depth of the Swap that led to a state, 0 if its step was none.
+// The depth of the Swap that led to a state, 0 if its step was none. No Option: no Swap has the depth 0, and document 01 compares depths.
 #[tactic(auto, unfolding(astar::specs::Search::step_of, costs::specs::Step::decoded))]
 fn last_depth(parent: Option<(PackedState, Step)>) -> usize
     ensures { result ≡ depth_of_code (step_of (parent_is parent)) }
@@ -45,7 +46,7 @@ impl Question<'_> {
     ghost use Rattle.search.specs.View.{posed, Stands, all_offered, Awaits, origin_of};
 
     // The estimate of a state, and the counts of its keys, into a table of zeros.
-    pub fn standing(&self, state: PackedState, have: &mut [u8]) -> u32
+    pub fn standing(&self, state: PackedState, have: &mut [u8; 64]) -> u32
         requires { Window state × Counted have.old [] }
         ensures { Stands self.now state result have.new }
     {
@@ -53,7 +54,7 @@ impl Question<'_> {
     }
 
     // The same of a state that is drawn, from its entry: only where the gas of its f stops at the greatest u32 is it added up anew.
-    fn drawn(&self, e: Entry, have: &mut [u8]) -> u32
+    fn drawn(&self, e: Entry<u64>, have: &mut [u8; 64]) -> u32
         requires { Window e.state × Awaits (posed self.now) (waits e) × Counted have.old [] }
         ensures { Stands self.now e.state result have.new }
     {
@@ -75,7 +76,7 @@ impl Question<'_> {
         held: Held,
         p: Origin,
         h: u32,
-        have: &[u8],
+        have: &[u8; 64],
         steps: &[Step],
     ) -> Sizes
         requires room { HasRoom 50 nodes.old heads.old list.old sizes }
@@ -106,7 +107,7 @@ impl Question<'_> {
         list: &mut [u64],
         sizes: Sizes,
         held: Held,
-        e: Entry,
+        e: Entry<u64>,
         node: Node,
     ) -> Sizes
         requires room { HasRoom 50 nodes.old heads.old list.old sizes }
@@ -115,16 +116,13 @@ impl Question<'_> {
             (edges_from (posed self.now) (keys_of e.state) (depth_of_code (step_of (parent_is node.parent)))) (work_of nodes.old list.old sizes))
             nodes.new heads.new list.new result }
     {
-        let mut steps = [Step::Pop; 50];
-        let n = self
-            .asked
-            .expand(e.state, last_depth(node.parent), &mut steps);
+        let steps = self.asked.expand(e.state, last_depth(node.parent));
         let mut have = [0; 64];
         let h = self.drawn(e, &mut have);
         let p = Origin {
             state: e.state,
             cost: e.g,
         };
-        self.offers(nodes, heads, list, sizes, held, p, h, &have, &steps[..n])
+        self.offers(nodes, heads, list, sizes, held, p, h, &have, &steps)
     }
 }

@@ -119,26 +119,23 @@ fits_by a prices ns k xs ys None p S = rw S.1 (omega arith)
 fits_by a prices ns k xs ys (Some g) None S = omega arith
 fits_by a prices ns k xs ys (Some g) (Some p) S = S.0.fits
 
-module _ (q : Question) (a : Ask) (l : Allowances) (bd : Bounds q) (pf : prices_fault q.prices ≡ false) (few : l.max_expansions ≤ 65536) (b : Cost) (n : ℕ) (bE : cost_of n ≡ b) (have : Bool)
-    (zs gs : List ℕ) (r : Left) (R : Ran q a l (first_of q a (cost_of n) have) zs gs r) (xs ys : List ℕ) (p : Option Plan) (S : PlanRead a q.prices (nodes_of zs r.nodes) r.count xs ys r.held.found p) where
+module _ (q : Question) (a : Ask) (l : Allowances) (bd : Bounds q) (pf : prices_fault q.prices ≡ false) (few : l.max_expansions ≤ 65536) (b : Cost) (have : Bool)
+    (zs gs : List ℕ) (r : Left) (R : Ran q a l (first_of q a b have) zs gs r) (xs ys : List ℕ) (p : Option Plan) (S : PlanRead a q.prices (nodes_of zs r.nodes) r.count xs ys r.held.found p) where
   abbrev out : Outcome
   out = record { plan = p; ending = r.ending; expansions = r.count }
 
   abbrev ended : Ended
   ended = ended_by r.ending
 
-  ends_at : Ends gas_bytes (problem_for q a) (allowance l) (first_of q a b have) R.last ended
-  ends_at = subst (λ (c : Cost). Ends gas_bytes (problem_for q a) (allowance l) (first_of q a c have) R.last ended) bE R.ends
-
   not_lost : (g : ℕ) → r.held.found ≡ Some g → plan a.start a.goal r.count (nodes_of zs r.nodes) ≡ None → ⊥
   not_lost g e h =
-      never_lost q a l bd pf few b have R.last ended ends_at r.count R.count_is (cost_of g)
+      never_lost q a l bd pf few b have R.last ended R.ends r.count R.count_is (cost_of g)
       (ap (λ (x : Hand Cost). x.last) R.hand_is ∙ ap (option_map cost_of) e) (rw R.nodes_are h)
 
   answer_is : (held : Option (Found Cost ℕ)) → given held ≡ have → told held out ys ≡ searched gas_bytes (problem_for q a) (priced_by q.prices) 50 b held (allowance l)
   unfolding plan_of
   answer_is held g =
-      let E : Ends gas_bytes (problem_for q a) (allowance l) (first gas_bytes (problem_for q a) (priced_by q.prices) 50 b held) R.last ended = subst (λ (t : Bool). Ends gas_bytes (problem_for q a) (allowance l) (first_of q a b t) R.last ended) (sym g) ends_at in
+      let E : Ends gas_bytes (problem_for q a) (allowance l) (first gas_bytes (problem_for q a) (priced_by q.prices) 50 b held) R.last ended = subst (λ (t : Bool). Ends gas_bytes (problem_for q a) (allowance l) (first_of q a b t) R.last ended) (sym g) R.ends in
       let A : searched gas_bytes (problem_for q a) (priced_by q.prices) 50 b held (allowance l) ≡ answer_of gas_bytes (problem_for q a) (priced_by q.prices) 50 b held R.last (number ended) = searched_is gas_bytes (problem_for q a) (priced_by q.prices) 50 30000 (bounded_for q a bd pf) b held (allowance l) R.last ended E in
       let t : plan_told held p ys ≡ plan_in q a b held (option_map cost_of r.held.found) r.count (nodes_of zs r.nodes) = plan_is q a b held (nodes_of zs r.nodes) r.count xs ys r.held.found p not_lost S in
       cc (t, A, R.hand_is, R.count_is, R.nodes_are)

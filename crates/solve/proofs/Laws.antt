@@ -22,6 +22,7 @@ use Rattle.heuristic.specs.Steady.{estimate_fits}
 use Rattle.moves.specs.Told.{cost_is}
 use Rattle.lists.specs.View.{SearchNode, nodes_of, queue_of, waits, blank, Kept, Sought, Stored, Pushed}
 use Rattle.offer.specs.View.{work_of}
+use Rattle.offer.specs.declared.Bound.{Bound}
 use Rattle.offer.specs.declared.Sizes.{Sizes}
 use Rattle.search.specs.View.{posed, Stands, IsWindow, Awaits}
 use Rattle.search.specs.declared.Question.{Question}
@@ -102,5 +103,5 @@ start_waits q a xs hs os s B W =
     let e : queue_of os s.list ≡ first_entry q a ∷ [] = ap (λ (w : Work Cost ℕ). w.queue) (B.work ∙ first_work q a (cost_of 0) false) in
     subst (AllValid gas_bytes (Awaits q)) (sym e) (record { window = W; summed = sym (from_nothing q (whole a.start)) }, tt)
 
-pub went : (q : Posed) (a : Ask) (l : Allowances) (bound : ℕ) (have : Bool) (xs hs os : List ℕ) (s : Sizes) (ys gs : List ℕ) (r : Left) → Begun q a xs hs os s → Ran q a l (search_of xs os s (record { bound = bound; have = have; found = None }) 0) ys gs r → Ran q a l (first_of q a (cost_of bound) have) ys gs r
-went q a l bound have xs hs os s ys gs r B R = subst (λ (x : Search Cost ℕ). Ran q a l x ys gs r) (first_search q a (cost_of bound) have (work_of xs os s) B.work) R
+pub went : (q : Posed) (a : Ask) (l : Allowances) (b : Bound) (xs hs os : List ℕ) (s : Sizes) (ys gs : List ℕ) (r : Left) → Begun q a xs hs os s → Ran q a l (search_of xs os s (record { bound = b; found = None }) 0) ys gs r → Ran q a l (first_of q a (cost_of b.cost) b.have) ys gs r
+went q a l b xs hs os s ys gs r B R = subst (λ (x : Search Cost ℕ). Ran q a l x ys gs r) (first_search q a (cost_of b.cost) b.have (work_of xs os s) B.work) R

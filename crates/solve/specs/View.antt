@@ -12,6 +12,8 @@ use Rattle.algebra.specs.GasBytes.{gas_bytes}
 use Rattle.astar.specs.Search.{number, Search, begin}
 use Rattle.astar.specs.Planner.{Found, Answer, given, searched}
 use Rattle.successors.specs.Successors.{Question}
+use Rattle.successors.specs.Whole.{asked}
+use Rattle.replay.specs.declared.rules.Task.{Task}
 use Rattle.problem.specs.Problem.{problem_of}
 use Rattle.lists.specs.View.{SearchNode}
 use Rattle.offer.specs.View.{Now}
@@ -81,6 +83,10 @@ pub record Searched (q : Question) (start : List ℕ) (l : Allowances) (bound : 
   pub answer : (held : Option (Found Cost ℕ)) → given held ≡ have → told held r ys ≡ searched gas_bytes (problem_of q start) (priced_by q.prices) 50 bound held (allowance l)
   pub rest : drop (steps_in r.plan) ys ≡ drop (steps_in r.plan) xs
   pub fits : steps_in r.plan ≤ length ys
+
+-- what a task asks of the search
+abbrev pub question_of : Task → Question
+question_of t = asked t.rules.cfg t.rules.kinds.now t.prices.now t.goal.now
 
 -- the start is a window of the question
 pub record StartFits (q : Question) (start : List ℕ) : Type 0 where

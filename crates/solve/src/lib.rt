@@ -5,18 +5,17 @@ ghost use Rattle.std.specs.Prelude.{◌≡◌, None, ◌≤◌, ◌<◌, length}
 ghost use Rattle.costs.specs.Packed.{cost_of};
 ghost use Rattle.window.specs.State.{whole};
 ghost use Rattle.window.specs.Keys.{Window};
-ghost use Rattle.successors.specs.Whole.{asked};
 ghost use Rattle.lists.specs.View.{nodes_of, Kept};
 ghost use Rattle.search.specs.View.{posed, IsWindow};
 ghost use Rattle.run.specs.View.{Roomy, Ran};
 ghost use Rattle.table.specs.Table.{Accepted};
-ghost use Rattle.solve.specs.View.{estimate_in, first_of, Begun, PlanRead, Searched, SearchedFor, StartFits};
+ghost use Rattle.solve.specs.View.{estimate_in, first_of, Begun, PlanRead, Searched, SearchedFor, StartFits, question_of};
 
 use costs::Cost;
 use heap::Entry;
 use lists::Node;
-use offer::{Held, Sizes};
-use replay::Rules;
+use offer::{Bound, Held, Sizes};
+use replay::Task;
 use run::{Allowances, Ask, Ending, Left};
 use search::Question;
 use table::Table;
@@ -49,6 +48,7 @@ fn estimate(question: &Question<'_>, state: PackedState) -> u64
 }
 
 // The first search, whatever the lists held before.
+// The lists stay apart, here and below: the check lends no two fields of a struct behind a reference at once.
 pub fn begin(
     nodes: &mut [u64],
     heads: &mut [u64],
@@ -75,7 +75,6 @@ pub fn begin(
 }
 
 // Begins and runs.
-// The bound stands with a plan and without one, so `have` goes beside it.
 pub fn go(
     nodes: &mut [u64],
     heads: &mut [u64],
@@ -83,20 +82,15 @@ pub fn go(
     question: &Question<'_>,
     ask: Ask,
     limits: Allowances,
-    bound: u64,
-    have: bool,
+    bound: Bound,
 ) -> Left
     requires heads_nonzero { 0 < length heads.old }
     requires roomy { Roomy limits nodes.old list.old }
     requires window { IsWindow (posed question.now) (whole ask.start) }
-    ensures { Ran (posed question.now) ask limits (first_of (posed question.now) ask (cost_of bound) have) nodes.new heads.new result }
+    ensures { Ran (posed question.now) ask limits (first_of (posed question.now) ask (cost_of bound.cost) bound.have) nodes.new heads.new result }
 {
     let sizes = begin(nodes, heads, list, question, ask);
-    let first = Held {
-        bound,
-        have,
-        found: None,
-    };
+    let first = Held { bound, found: None };
     run::run(nodes, heads, list, question, sizes, first, ask, limits)
 }
 
@@ -133,26 +127,16 @@ pub fn search_for(
     question: &Question<'_>,
     ask: Ask,
     limits: Allowances,
-    bound: Cost,
-    have: bool,
+    bound: Bound,
 ) -> Outcome
     requires heads_nonzero { 0 < length heads.old }
     requires roomy { Roomy limits nodes.old list.old }
     requires window { IsWindow (posed question.now) (whole ask.start) }
     requires most_in_bounds { limits.max_expansions ≤ length steps.old }
     requires most_bound { limits.max_expansions ≤ 65536 }
-    ensures { SearchedFor (posed question.now) ask limits bound have result steps.old steps.new }
+    ensures { SearchedFor (posed question.now) ask limits (cost_of bound.cost) bound.have result steps.old steps.new }
 {
-    let left = go(
-        nodes,
-        heads,
-        list,
-        question,
-        ask,
-        limits,
-        u64::from(bound),
-        have,
-    );
+    let left = go(nodes, heads, list, question, ask, limits, bound);
     Outcome {
         plan: read_plan(nodes, heads, steps, question.asked.prices, ask, left),
         ending: left.ending,
@@ -160,36 +144,30 @@ pub fn search_for(
     }
 }
 
-// The search from a start window to a goal window, with the bound that the builders gave and whether they have a plan. The plan stands in
-// the first places of the step list; the work lists may hold anything.
+// The search from a start window to a goal window, with the bound that the builders gave. The plan stands in the first places of the step
+// list; the work lists may hold anything.
 pub fn search_from(
     nodes: &mut [u64],
     heads: &mut [u64],
     list: &mut [u64],
     steps: &mut [u16],
-    start: &[u8],
-    goal: &[u8],
-    rules: Rules<'_>,
-    prices: &[u32],
+    task: &Task<'_>,
     limits: Allowances,
-    bound: Cost,
-    have: bool,
+    bound: Bound,
 ) -> Outcome
     requires heads_nonzero { 0 < length heads.old }
     requires roomy { Roomy limits nodes.old list.old }
-    requires accepted { Accepted rules.cfg rules.kinds.now prices.now goal.now }
-    requires start_fits { StartFits (asked rules.cfg rules.kinds.now prices.now goal.now) start.now }
+    requires accepted { Accepted task.now.rules.cfg task.now.rules.kinds.now task.now.prices.now task.now.goal.now }
+    requires start_fits { StartFits (question_of task.now) task.now.start.now }
     requires most_in_bounds { limits.max_expansions ≤ length steps.old }
     requires most_bound { limits.max_expansions ≤ 65536 }
-    ensures { Searched (asked rules.entry.cfg rules.entry.kinds.now prices.now goal.now) start.now limits bound have result steps.old steps.new }
+    ensures { Searched (question_of task.now) task.now.start.now limits (cost_of bound.cost) bound.have result steps.old steps.new }
 {
-    let table = Table::new(goal, prices, rules.cfg);
-    let question = table.question(goal, rules, prices);
+    let table = Table::new(task.goal, task.prices, task.rules.cfg);
+    let question = table.question(task.goal, task.rules, task.prices);
     let ask = Ask {
-        start: PackedState::from_ids(start),
-        goal: PackedState::from_ids(goal),
+        start: PackedState::from_ids(task.start),
+        goal: PackedState::from_ids(task.goal),
     };
-    search_for(
-        nodes, heads, list, steps, &question, ask, limits, bound, have,
-    )
+    search_for(nodes, heads, list, steps, &question, ask, limits, bound)
 }

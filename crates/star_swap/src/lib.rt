@@ -39,6 +39,7 @@ impl Arcs {
     }
 
     // The first slot that needs a key, which leaves the lists.
+    // A key is a byte of a list that C lends and no type of its own, so that it is below 64 is asked.
     fn take(&mut self, key: u8) -> Option<u8>
         requires { Held self.old × (key < 64) }
         ensures { Took key self.old result self.new }
@@ -48,7 +49,7 @@ impl Arcs {
         Some(slot)
     }
 
-    // The trail from a key: its slots leave the lists.
+    // The trail from a key: its slots leave the lists. A loop that follows the stack and counts no index.
     fn trail(&mut self, cur: &[u8], start: u8) -> ArrayVec<u8, 20>
         requires { Ready cur.now start self.old }
         ensures { Given cur.now start self.old self.new result.items }
@@ -84,7 +85,7 @@ impl Arcs {
             .fold(false, |any, slot| any | slot.is_some())
     }
 
-    // Whether a slot needs the key.
+    // Whether a slot needs the key, below 64 as in `take`.
     fn has(&self, key: u8) -> bool
         requires { key < 64 }
         ensures { result ≡ is_some (slot self.now.head key) }
@@ -166,17 +167,6 @@ pub fn count_into(w: &[u8], a: &mut [u8; 64])
     }
 }
 
-// The same in a table of its own.
-// heuristic's `count_list` asks for at most 21 keys below 64; this takes up to 255 of any.
-pub fn counts(w: &[u8]) -> [u8; 64]
-    requires { length w.now ≤ 255 }
-    ensures { Counts w.now result }
-{
-    let mut a = [0; 64];
-    count_into(w, &mut a);
-    a
-}
-
 // Whether two windows hold each key equally often.
 fn same_counts(a: &[u8], b: &[u8]) -> bool
     requires { (length a.now ≤ 255) × (length b.now ≤ 255) }
@@ -251,7 +241,7 @@ pub struct Written {
     pub count: usize,
 }
 
-// Beside a refusal the count is zero.
+// Beside a refusal the count is zero. rewind's `Rewound` is the same by the names that C has for it.
 impl From<Result<usize, Refusal>> for Written {
     ghost from_gives = { λ answer written. written ≡ written_of answer };
 

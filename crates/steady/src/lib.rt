@@ -16,6 +16,7 @@ pub struct Twice {
 // Plans one question, above so many items, under two sets of allowances, each time with step and work lists of its own, of any lengths and
 // contents. Where both plannings are accepted and no allowance is lower the second time, the pass mark is no higher, a plan stays a plan and
 // costs no more than its own ceiling, and an answer that ended by itself is the same in every field and step.
+// The numbers of document 01's call, one by one, as C passes them.
 pub fn plan_twice(
     start: &[u8],
     goal: &[u8],

@@ -1,6 +1,6 @@
 -- The steps listed so far, and the laws that the loops go by.
-use Rattle.std.specs.Prelude.{ℕ, zero, suc, ◌+◌, ◌-◌, ◌≤◌, ◌<◌, ◌≡◌, refl, true, List, [], ◌∷◌, ◌++◌, Option, length, get_or, set, take}
-use Rattle.std.proofs.Common.{ap, sym, ◌∙◌, append_assoc, append-nil, arith, add-one, length-append, length-set, take-suc-set, take-suc}
+use Rattle.std.specs.Prelude.{ℕ, zero, suc, ◌+◌, ◌-◌, ◌≤◌, ◌<◌, ◌≡◌, refl, true, false, List, [], ◌∷◌, ◌++◌, Option, length, get_or, take}
+use Rattle.std.proofs.Common.{ap, sym, ◌∙◌, append_assoc, append-nil, arith, length-append, take-suc}
 use Rattle.std.proofs.Math.Seq.{take-length}
 use Rattle.std.specs.Option.{option_to_list}
 use Rattle.costs.specs.declared.Step.{Step}
@@ -37,58 +37,27 @@ up_to_grows f d (suc e) =
     let s : suc e + d ≡ suc (e + d) = omega arith in
     rw s (omega (arith, length-append (up_to f (e + d)) (f (e + d)), up_to_grows f d e))
 
-pub up_to_room {ℓ} : {A : Type ℓ} (f : ℕ → List A) (now base d limit : ℕ) → now ≡ base + length (up_to f d) → d < limit → base + length (up_to f limit) ≤ 50 → now + length (f d) ≤ 50
-unfolding up_to
-up_to_room f now base d limit e l h =
-    let q : limit ≡ limit - suc d + suc d = omega arith in
-    let g = up_to_grows f (suc d) (limit - suc d) in
-    let k = ap (λ n. length (up_to f n)) q in
-    omega (arith, length-append (up_to f d) (f d))
+-- ---- the steps in a list of 50 places
 
--- ---- the steps in a lent list
+-- a list of at most 50 has room for the steps ss behind those it has
+abbrev pub Roomy : List Step → List Step → Type 0
+Roomy list ss = length list + length ss ≤ 50
 
--- the first n steps of a list
-pub record Steps : Type 0 where
-  pub list : List Step
-  pub n : ℕ
+-- room for the first of three parts, the second and the third, and the list with all of them
+module _ (o xs ys zs : List Step) (h : Roomy o (xs ++ (ys ++ zs))) where
+  pub room_first : Roomy o xs
+  room_first = omega (arith, length-append xs (ys ++ zs))
 
-abbrev pub steps : List Step → ℕ → Steps
-steps list n = record { list = list; n = n }
+  module _ (a : List Step) (ha : a ≡ o ++ xs) where
+    pub room_second : Roomy a ys
+    room_second = omega (arith, ap length ha, length-append o xs, length-append xs (ys ++ zs), length-append ys zs)
 
-unfoldable pub listed : Steps → List Step
-listed s = take s.n s.list
+    module _ (b : List Step) (hb : b ≡ a ++ ys) where
+      pub room_third : Roomy b zs
+      room_third = omega (arith, ap length hb, length-append a ys, ap length ha, length-append o xs, length-append xs (ys ++ zs), length-append ys zs)
 
--- a list with places for 50 steps has room for the steps ss from place n on
-pub record Roomy (list : List Step) (n : ℕ) (ss : List Step) : Type 0 where
-  pub places : 50 ≤ length list
-  pub few : n + length ss ≤ 50
-
--- r is out with the steps ss after those of out
-pub record Added (out r : Steps) (ss : List Step) : Type 0 where
-  pub list : listed r ≡ listed out ++ ss
-  pub count : r.n ≡ out.n + length ss
-  pub size : length r.list ≡ length out.list
-
-pub added_none : (out : Steps) → Added out out []
-added_none out = record { list = sym (append-nil (listed out)); count = omega arith; size = refl }
-
-pub added_then : (a b c : Steps) (xs ys : List Step) → Added a b xs → Added b c ys → Added a c (xs ++ ys)
-added_then a b c xs ys h k =
-    record {
-      list = rw (k.list, h.list, append_assoc (listed a) xs ys);
-      count = omega (arith, h.count, k.count, length-append xs ys);
-      size = k.size ∙ h.size;
-    }
-
-pub added_one : (list : List Step) (n : ℕ) (s : Step) → Roomy list n (s ∷ []) → Added (steps list n) (steps (set list n s) (n + 1)) (s ∷ [])
-unfolding listed
-added_one list n s h =
-    let l : n < length list = omega (arith, h.places, h.few) in
-    record {
-      list = rw (add-one n, take-suc-set list n s l);
-      count = refl;
-      size = length-set list n s;
-    }
+      pub all_three : (e : List Step) → e ≡ b ++ zs → e ≡ o ++ (xs ++ (ys ++ zs))
+      all_three e he = he ∙ rw (hb, ha, append_assoc (o ++ xs) ys zs, append_assoc o xs (ys ++ zs)) refl
 
 -- ---- a loop that adds what f gives, number by number
 
@@ -96,42 +65,22 @@ added_one list n s h =
 abbrev pub Gives : (pre : ℕ → Type 0) (post : ℕ → Option Step → Type 0) (limit : ℕ) (f : ℕ → List Step) → Type 0
 Gives pre post limit f = (i : ℕ) → i < limit → pre i × ((r : Option Step) → post i r → option_to_list r ≡ f i)
 
-pub added_start : (out : Steps) (f : ℕ → List Step) → Added out out (up_to f 0)
+pub loop_added : (list : List Step) (f : ℕ → List Step) (n : ℕ) → (list ++ up_to f n) ++ f n ≡ list ++ up_to f (n + 1)
+loop_added list f n = append_assoc list (up_to f n) (f n) ∙ ap (λ l. list ++ l) (sym (up_to_turn f n))
+
+-- the room for the next step
+pub loop_room : (list : List Step) (f : ℕ → List Step) (d limit : ℕ) → d < limit → Roomy list (up_to f limit) → Roomy (list ++ up_to f d) (f d)
 unfolding up_to
-added_start out f = added_none out
-
-pub loop_added : (a b c : Steps) (f : ℕ → List Step) (n : ℕ) → Added a b (up_to f n) → Added b c (f n) → Added a c (up_to f (n + 1))
-loop_added a b c f n h k = rw (up_to_turn f n) (added_then a b c (up_to f n) (f n) h k)
-
--- the room for the next step: list and at as the loop found them, now and n as they are
-pub loop_room : (list now : List Step) (at n : ℕ) (f : ℕ → List Step) (d limit : ℕ) → Added (steps list at) (steps now n) (up_to f d) → d < limit → Roomy list at (up_to f limit) → Roomy now n (f d)
-loop_room list now at n f d limit a l h =
-    record { places = omega (arith, a.size, h.places); few = up_to_room f n at d limit a.count l h.few }
-
-pub each_roomy : (codes : List Step) (at : ℕ) (f : ℕ → List Step) (ks : List ℕ) → Roomy codes at (each f ks) → Roomy codes at (up_to (λ i. f (get_or ks i 0)) (length ks))
-each_roomy codes at f ks h = rw (each_up_to f ks) h
+loop_room list f d limit l h =
+    let q : limit ≡ limit - suc d + suc d = omega arith in
+    let g = up_to_grows f (suc d) (limit - suc d) in
+    let k = ap (λ n. length (up_to f n)) q in
+    omega (arith, length-append (up_to f d) (f d), length-append list (up_to f d))
 
 -- ---- the parts that grow the window
 
-grown_yes : (max_len n : ℕ) (ss : List Step) → room max_len n ≡ true → grown max_len n ss ≡ ss
+pub grown_yes : (max_len n : ℕ) (ss : List Step) → room max_len n ≡ true → grown max_len n ss ≡ ss
 grown_yes max_len n ss t = rw t
 
-pub room_grown : (codes : List Step) (at max_len n : ℕ) (ss : List Step) → room max_len n ≡ true → Roomy codes at (grown max_len n ss) → Roomy codes at ss
-room_grown codes at max_len n ss l h = rw (grown_yes max_len n ss l) at h
-
-pub added_grown : (a b : Steps) (max_len n : ℕ) (ss : List Step) → room max_len n ≡ true → Added a b ss → Added a b (grown max_len n ss)
-added_grown a b max_len n ss l h = rw (grown_yes max_len n ss l) h
-
--- room for the first part, the second and the third of three
-module _ (codes : List Step) (at : ℕ) (xs ys zs : List Step) (h : Roomy codes at (xs ++ (ys ++ zs))) where
-  pub room_first : Roomy codes at xs
-  room_first = record { places = h.places; few = omega (arith, h.few, length-append xs (ys ++ zs)) }
-
-  pub room_second : (a : List Step) (n : ℕ) → Added (steps codes at) (steps a n) xs → Roomy a n ys
-  room_second a n k = record { places = omega (arith, h.places, k.size); few = omega (arith, h.few, k.count, length-append xs (ys ++ zs), length-append ys zs) }
-
-  pub room_third : (a b : List Step) (n m : ℕ) → Added (steps codes at) (steps a n) xs → Added (steps a n) (steps b m) ys → Roomy b m zs
-  room_third a b n m k l = record { places = omega (arith, h.places, k.size, l.size); few = omega (arith, h.few, k.count, l.count, length-append xs (ys ++ zs), length-append ys zs) }
-
-pub added_three : (o a b c : Steps) (xs ys zs : List Step) → Added o a xs → Added a b ys → Added b c zs → Added o c (xs ++ (ys ++ zs))
-added_three o a b c xs ys zs h k l = added_then o a c xs (ys ++ zs) h (added_then a b c ys zs k l)
+pub grown_no : (max_len n : ℕ) (ss : List Step) → room max_len n ≡ false → grown max_len n ss ≡ []
+grown_no max_len n ss t = rw t

@@ -1,7 +1,7 @@
 -- An expansion as a whole: what it may rest on, what it gives, and the law that puts its parts together.
-use Rattle.std.specs.Prelude.{ℕ, ◌+◌, ◌≤◌, ◌<◌, min, ◌≡◌, List, ◌++◌, take}
+use Rattle.std.specs.Prelude.{ℕ, ◌+◌, ◌≤◌, ◌<◌, min, ◌≡◌, List, [], ◌++◌}
 use Rattle.std.proofs.Math.Path.{ap}
-use Rattle.std.proofs.Common.{◌∙◌, arith, length-append}
+use Rattle.std.proofs.Common.{◌∙◌, arith, append_assoc, length-append}
 use Rattle.std.proofs.Math.ListN.{length}
 use Rattle.std.proofs.Props.{props}
 use Rattle.window.specs.Props.{keys_prop}
@@ -16,17 +16,10 @@ use Rattle.successors.specs.Parts.{up_to, all_at}
 use Rattle.successors.specs.Successors.{Question, suffix_start, pops, firsts, zeros, swap_at, dups, others, loads, grown, steps_from}
 use Rattle.successors.specs.Limits.{Bounds, steps_at_most, firsts_keys}
 use Rattle.successors.specs.Keys.{KeysFit, Keyed}
-use Rattle.successors.specs.Listed.{steps, listed, Roomy, Added, added_then}
+use Rattle.successors.specs.Listed.{Roomy}
 
 abbrev pub asked : SearchCfg → (kinds prices goal : List ℕ) → Question
 asked cfg kinds prices goal = record { rules = ruled cfg kinds; prices = prices; goal = goal }
-
--- what it gives: in the first n places of the list lent, the steps from the window, in order
-pub record Expanded (q : Question) (w : List ℕ) (last : ℕ) (before after : List Step) (n : ℕ) : Type 0 where
-  pub list : take n after ≡ steps_from q w last
-  pub count : n ≡ length (steps_from q w last)
-  pub few : n ≤ 50
-  pub size : length after ≡ length before
 
 -- what an expansion rests on beside the window: the question is an accepted one, and keys are the goal's, each once
 pub record Expanding (q : Question) (ks : List ℕ) : Type 0 where
@@ -79,35 +72,24 @@ module _ (q : Question) (w ks : List ℕ) (start limit last : ℕ) where
           length-append part_swap part_rest,
         )
 
-    expanded : (o e : List Step) (m : ℕ) → Added (steps o 0) (steps e m) (pops w ++ (part_zero ++ (part_swap ++ part_rest))) → Expanded q w last o e m
-    unfolding listed
-    expanded o e m h =
-        record {
-          list = h.list ∙ parts_are;
-          count = omega (arith, h.count, ap length parts_are);
-          few = omega (arith, h.count, whole_room);
-          size = h.size;
-        }
+    -- the list after each part: o is empty, and a, b, d and e have a part more each
+    module _ (o : List Step) (z : o ≡ []) where
+      pub room_pop : Roomy o (pops w)
+      room_pop = omega (arith, whole_room, sums, ap length z)
 
-    module _ (o : List Step) (z : 50 ≤ length o) where
-      pub room_pop : Roomy o 0 (pops w)
-      room_pop = record { places = z; few = omega (arith, whole_room, sums) }
+      module _ (a : List Step) (ha : a ≡ o ++ pops w) where
+        pub room_zero : Roomy a part_zero
+        room_zero = omega (arith, whole_room, sums, ap length z, ap length ha, length-append o (pops w))
 
-      module _ (a : List Step) (na : ℕ) (ha : Added (steps o 0) (steps a na) (pops w)) where
-        pub room_zero : Roomy a na part_zero
-        room_zero = record { places = omega (arith, ha.size); few = omega (arith, ha.count, whole_room, sums) }
+        module _ (b : List Step) (hb : b ≡ a ++ part_zero) where
+          pub room_swap : Roomy b part_swap
+          room_swap = omega (arith, whole_room, sums, ap length z, ap length ha, length-append o (pops w), ap length hb, length-append a part_zero)
 
-        module _ (b : List Step) (nb : ℕ) (hb : Added (steps a na) (steps b nb) part_zero) where
-          pub room_swap : Roomy b nb part_swap
-          room_swap = record { places = omega (arith, ha.size, hb.size); few = omega (arith, ha.count, hb.count, whole_room, sums) }
+          module _ (d : List Step) (hd : d ≡ b ++ part_swap) where
+            pub room_rest : Roomy d part_rest
+            room_rest = omega (arith, whole_room, sums, ap length z, ap length ha, length-append o (pops w), ap length hb, length-append a part_zero, ap length hd, length-append b part_swap)
 
-          module _ (d : List Step) (nd : ℕ) (hd : Added (steps b nb) (steps d nd) part_swap) where
-            pub room_rest : Roomy d nd part_rest
-            room_rest = record { places = omega (arith, ha.size, hb.size, hd.size); few = omega (arith, ha.count, hb.count, hd.count, whole_room, sums) }
-
-            pub made : (e : List Step) (ne : ℕ) → Added (steps d nd) (steps e ne) part_rest → Expanded q w last o e ne
-            made e ne he =
-                expanded o e ne
-                (added_then (steps o 0) (steps a na) (steps e ne) (pops w) (part_zero ++ (part_swap ++ part_rest)) ha
-                (added_then (steps a na) (steps b nb) (steps e ne) part_zero (part_swap ++ part_rest) hb
-                (added_then (steps b nb) (steps d nd) (steps e ne) part_swap part_rest hd he)))
+            pub made : (e : List Step) → e ≡ d ++ part_rest → e ≡ steps_from q w last
+            made e he =
+                he
+                ∙ rw (hd, hb, ha, z, append_assoc (pops w ++ part_zero) part_swap part_rest, append_assoc (pops w) part_zero (part_swap ++ part_rest)) parts_are

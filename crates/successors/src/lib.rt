@@ -1,17 +1,17 @@
 // The steps to the successors of a window, in order.
 #![tactic(auto)]
 
-ghost use Rattle.std.specs.Prelude.{◌≡◌, List, ℕ, ◌+◌, ◌<◌, ◌≤◌, min, not, length, get_or, take, reverse};
+ghost use Rattle.std.specs.Prelude.{◌≡◌, List, ℕ, ◌++◌, ◌<◌, ◌≤◌, min, not, length, get_or, take, reverse};
 ghost use Rattle.std.specs.Option.{option_to_list};
 ghost use Rattle.costs.specs.Kind.{kind_of};
 ghost use Rattle.costs.specs.declared.Step.{Step};
 ghost use Rattle.window.specs.Keys.{keys_of, Window};
 ghost use Rattle.successors.specs.Parts.{up_to, has};
-ghost use Rattle.successors.specs.Successors.{common, suffix_start, firsts, kind_is, goal_zero, dup_serves, dominated, reached, swap_at, dup_at, zero_at, other_at, load_at};
+ghost use Rattle.successors.specs.Successors.{common, suffix_start, firsts, kind_is, goal_zero, dup_serves, dominated, reached, swap_at, dup_at, zero_at, other_at, load_at, steps_from};
 ghost use Rattle.successors.specs.Keys.{Keyed};
 ghost use Rattle.successors.specs.Places.{Placed};
-ghost use Rattle.successors.specs.Listed.{steps, Roomy, Added, Gives};
-ghost use Rattle.successors.specs.Whole.{asked, Expanding, Expanded, expanding_prop};
+ghost use Rattle.successors.specs.Listed.{Roomy, Gives};
+ghost use Rattle.successors.specs.Whole.{asked, Expanding, expanding_prop};
 
 use arrayvec::ArrayVec;
 use costs::{Kind, Step};
@@ -87,6 +87,7 @@ impl<'a> Reached<'a> {
     }
 
     // Whether a Dup reaches a key.
+    // A key is a byte of a list that C lends and no type of its own, so that it is below 64 is asked.
     fn has(&self, key: u8) -> bool
         requires { key < 64 }
         ensures { result ≡ reached self.now.w.now self.now.reach key }
@@ -105,6 +106,7 @@ impl<'a> Reached<'a> {
     }
 }
 
+// That a key is below 64 is asked here as in `Reached::has`.
 impl Asked<'_> {
     // Whether a key is of the kind.
     #[tactic(auto, unfolding(crate::specs::Successors::kind_is))]
@@ -130,11 +132,8 @@ impl Asked<'_> {
         requires { Keyed w.now × (d < length w.now) }
         ensures { option_to_list result ≡ swap_at w.now self.now.cfg.dup_max start last d }
     {
-        if 0 < d && d != last && w[0] != w[d] && (d < start || self.cfg.dup_max <= d) {
-            Some(Step::Swap(d as u8))
-        } else {
-            None
-        }
+        let offered = 0 < d && d != last && w[0] != w[d] && (d < start || self.cfg.dup_max <= d);
+        offered.then_some(Step::Swap(d as u8))
     }
 
     // Whether a key is a zero that the goal has.
@@ -200,99 +199,87 @@ impl Asked<'_> {
     }
 }
 
-// A step at place n, if there is one; the places in use after it.
-fn put(out: &mut [Step], n: usize, offered: Option<Step>) -> usize
-    requires { Roomy out.old n (option_to_list offered) }
-    ensures { Added (steps out.old n) (steps out.new result) (option_to_list offered) }
+// A step behind those there are, if there is one.
+fn put(out: &mut ArrayVec<Step, 50>, offered: Option<Step>)
+    requires { Roomy out.old.items (option_to_list offered) }
+    ensures { out.new.items ≡ out.old.items ++ option_to_list offered }
 {
-    let Some(step) = offered else {
-        return n;
-    };
-    out[n] = step;
-    n + 1
+    if let Some(step) = offered {
+        out.push(step);
+    }
 }
 
-// The steps offered for the numbers below a limit, in order, from place at on; the places in use after them.
-fn put_each<F: Fn(usize) -> Option<Step>>(
-    out: &mut [Step],
-    at: usize,
-    limit: usize,
-    offered: F,
-) -> usize
+// The steps offered for the numbers below a limit, in order, behind those there are.
+fn put_each<F: Fn(usize) -> Option<Step>>(out: &mut ArrayVec<Step, 50>, limit: usize, offered: F)
     ghost f: { ℕ → List Step }
     requires gives { Gives (F.pre offered) (F.post offered) limit f }
-    requires roomy { Roomy out.old at (up_to f limit) }
-    ensures { Added (steps out.old at) (steps out.new result) (up_to f limit) }
+    requires roomy { Roomy out.old.items (up_to f limit) }
+    ensures { out.new.items ≡ out.old.items ++ up_to f limit }
 {
-    let mut n = at;
     for i in 0..limit {
-        n = put(out, n, offered(i));
+        put(out, offered(i));
     }
-    n
 }
 
 impl Asked<'_> {
     ghost use Rattle.successors.specs.View.{question_of, zeros_of, rest_of, grown_of};
 
     // The push of zero, if a window of so many keys may grow.
-    fn put_zeros(&self, out: &mut [Step], at: usize, len: usize) -> usize
-        requires { Roomy out.old at (zeros_of self.now len) }
-        ensures { Added (steps out.old at) (steps out.new result) (zeros_of self.now len) }
+    fn put_zeros(&self, out: &mut ArrayVec<Step, 50>, len: usize)
+        requires { Roomy out.old.items (zeros_of self.now len) }
+        ensures { out.new.items ≡ out.old.items ++ zeros_of self.now len }
     {
-        if !replay::has_room(self.cfg.max_len, len) {
-            return at;
+        if replay::has_room(self.cfg.max_len, len) {
+            put_each(out, self.keys.len(), |i| self.zero(self.keys[i]));
         }
-        put_each(out, at, self.keys.len(), |i| self.zero(self.keys[i]))
     }
 
     // The Dups, the pushes of other immediates and the loads.
-    fn put_rest(&self, out: &mut [Step], at: usize, near: &Reached<'_>) -> usize
-        requires { Roomy out.old at (rest_of self.now near.now.w.now near.now.reach) }
-        ensures { Added (steps out.old at) (steps out.new result) (rest_of self.now near.now.w.now near.now.reach) }
+    fn put_rest(&self, out: &mut ArrayVec<Step, 50>, near: &Reached<'_>)
+        requires { Roomy out.old.items (rest_of self.now near.now.w.now near.now.reach) }
+        ensures { out.new.items ≡ out.old.items ++ rest_of self.now near.now.w.now near.now.reach }
     {
         let keys = self.keys;
-        let dups = put_each(out, at, near.reach, |p| self.dup(near, p));
-        let others = put_each(out, dups, keys.len(), |i| self.other(near, keys[i]));
-        put_each(out, others, keys.len(), |i| self.load(near, keys[i]))
+        put_each(out, near.reach, |p| self.dup(near, p));
+        put_each(out, keys.len(), |i| self.other(near, keys[i]));
+        put_each(out, keys.len(), |i| self.load(near, keys[i]));
     }
 
     // The same, if the window may grow.
-    fn put_grown(&self, out: &mut [Step], at: usize, w: &[u8]) -> usize
+    fn put_grown(&self, out: &mut ArrayVec<Step, 50>, w: &[u8])
         requires keyed { Keyed w.now }
-        requires roomy { Roomy out.old at (grown_of self.now w.now) }
-        ensures { Added (steps out.old at) (steps out.new result) (grown_of self.now w.now) }
+        requires roomy { Roomy out.old.items (grown_of self.now w.now) }
+        ensures { out.new.items ≡ out.old.items ++ grown_of self.now w.now }
     {
-        if !replay::has_room(self.cfg.max_len, w.len()) {
-            return at;
+        if replay::has_room(self.cfg.max_len, w.len()) {
+            self.put_rest(out, &Reached::new(w, self.cfg.dup_max));
         }
-        self.put_rest(out, at, &Reached::new(w, self.cfg.dup_max))
     }
 
     // The steps from a window, by the list of its keys.
-    fn expand_keys(&self, w: &[u8], last: usize, out: &mut [Step]) -> usize
-        requires keyed { Keyed w.now }
-        requires places { 50 ≤ length out.old }
-        ensures { Expanded (question_of self.now) w.now last out.old out.new result }
+    fn expand_keys(&self, w: &[u8], last: usize) -> ArrayVec<Step, 50>
+        requires { Keyed w.now }
+        ensures { result.items ≡ steps_from (question_of self.now) w.now last }
     {
         let len = w.len();
         let start = suffix_start(w, self.goal);
         let limit = len.min(self.cfg.swap_max);
-        let popped = put(out, 0, (0 < len).then_some(Step::Pop));
-        let pushed = self.put_zeros(out, popped, len);
-        let swapped = put_each(out, pushed, limit, |d| self.swap(w, start, last, d));
-        self.put_grown(out, swapped, w)
+        let mut out = ArrayVec::new();
+        put(&mut out, (0 < len).then_some(Step::Pop));
+        self.put_zeros(&mut out, len);
+        put_each(&mut out, limit, |d| self.swap(w, start, last, d));
+        self.put_grown(&mut out, w);
+        out
     }
 
-    // The steps to the successors of a state, in the first places of out; the places in use. last is the depth of the Swap just made, or 0: no
-    // Swap has that. The list is lent, and no ArrayVec: one fills its places with a default, and no step is that.
-    pub fn expand(&self, state: PackedState, last: usize, out: &mut [Step]) -> usize
-        requires window { Window state }
-        requires places { 50 ≤ length out.old }
-        ensures { Expanded (question_of self.now) (keys_of state) last out.old out.new result }
+    // The steps to the successors of a state. last is the depth of the Swap just made, or 0: no Swap has that.
+    pub fn expand(&self, state: PackedState, last: usize) -> ArrayVec<Step, 50>
+        requires { Window state }
+        ensures { result.items ≡ steps_from (question_of self.now) (keys_of state) last }
     {
         // In place, with the length beside it: a list that is handed back takes more time.
         let mut held = [0; 21];
         let len = state.write(&mut held);
-        self.expand_keys(&held[..len], last, out)
+        self.expand_keys(&held[..len], last)
     }
 }

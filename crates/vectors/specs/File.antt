@@ -93,10 +93,10 @@ pattern_at i = 40000 + i % 20000
 abbrev pub no_key : ℕ → ℕ
 no_key i = 201
 
--- A list of n numbers, each by its place.
-pub record Filled (f : ℕ → ℕ) (n : ℕ) (xs : List ℕ) : Type 0 where
+-- A list of n items, each as its place wants it.
+pub record Filled {A : Type 0} (Fits : ℕ → A → Type 0) (n : ℕ) (xs : List A) : Type 0 where
   pub long : length xs ≡ n
-  pub each : (k : ℕ) → k < n → slice_index xs k ≡ f k
+  pub each : (k : ℕ) (none : A) → k < n → Fits k (slice_index_or xs k none)
 
 -- Every number of the field of answers is answered: the refusal, then the call's fields.
 abbrev pub AsFields : List ℕ → List ℕ → Type 0

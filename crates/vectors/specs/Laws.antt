@@ -1,19 +1,7 @@
 -- Laws of what the reader goes through place by place.
-use Rattle.std.specs.Prelude.{◌≡◌, ℕ, suc, ◌+◌, ◌<◌, List, length, ◌≢◌, slice_index, slice_set, refl}
-use Rattle.std.proofs.Common.{◌∙◌, arith, below_more, get_or-set_same, get_or-set_other, eq-eqb, ne_eqb}
+use Rattle.std.specs.Prelude.{◌≡◌, ℕ, suc, ◌+◌, List, length, ◌≢◌, slice_index, refl}
+use Rattle.std.proofs.Common.{eq-eqb, ne_eqb}
 use Rattle.vectors.specs.File.{place_of, entries_size, FieldKnown, Known}
-
--- One place more of a list that is filled from its first place on.
-pub filled_more :
-    (f : ℕ → ℕ) (xs : List ℕ) (i v : ℕ) →
-    i < length xs →
-    v ≡ f i →
-    ((k : ℕ) → k < i → slice_index xs k ≡ f k) →
-    (k : ℕ) → k < i + 1 → slice_index (slice_set xs i v) k ≡ f k
-filled_more f xs i v h e all =
-    below_more (λ (k : ℕ). slice_index (slice_set xs i v) k ≡ f k) i
-    (λ k l. get_or-set_other xs i k v 0 (λ q. omega (arith, q)) ∙ all k l)
-    (get_or-set_same xs i v 0 h ∙ e)
 
 -- All fields are known where the next is and those behind it are,
 pub known_more :

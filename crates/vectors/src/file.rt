@@ -1,6 +1,10 @@
 // Reading a list of answers. Past its end a list reads as zeros, so that no place is out of range and a number that a record lacks is 0.
 ghost use Rattle.std.specs.Prelude.{◌≡◌, ◌+◌, ◌-◌, ◌*◌, ◌<◌, ◌≤◌, true, IfErr, IfSome, OnOk, length, take, drop, slice_index};
-ghost use Rattle.vectors.specs.File.{tag_of, number_at, short_at, code_at, entries_size, place_of, field_of, has_field, passed_at, places_of, width_of, FieldKnown, AllKnown};
+ghost use Rattle.vectors.specs.File.{tag_of, number_at, short_at, entries_size, place_of, field_of, has_field, passed_at, places_of, width_of, Filled, FieldKnown, AllKnown};
+
+use planner::Allowances;
+use replay::SearchCfg;
+use std::array;
 
 // The most work list entries and the longest step list or result list that a record may lend.
 pub const ENTRIES: usize = 20050;
@@ -99,22 +103,28 @@ pub enum Strange {
     Length,
 }
 
+// The byte at a place.
+// One call of the library, as in costs' `price_at`.
 pub fn byte(s: &[u8], at: usize) -> u8
     ensures { result ≡ slice_index s.now at }
 {
     s.get(at).copied().unwrap_or(0)
 }
 
-// The number of four bytes at a place.
+// The N bytes from a place on.
+fn bytes<const N: usize>(s: &[u8], at: usize) -> [u8; N]
+    requires { at + N < 18446744073709551616 }
+    ensures { Filled (λ i b. b ≡ slice_index s.now (at + i)) N result }
+{
+    array::from_fn(|i| byte(s, at + i))
+}
+
+// The number of four bytes at a place: one call of the library.
 pub fn number(s: &[u8], at: usize) -> u32
     requires { at < 1048576 }
     ensures { result ≡ number_at s.now at }
 {
-    let a = u32::from(byte(s, at));
-    let b = u32::from(byte(s, at + 1));
-    let c = u32::from(byte(s, at + 2));
-    let d = u32::from(byte(s, at + 3));
-    a + 256 * b + 65536 * c + 16777216 * d
+    u32::from_le_bytes(bytes(s, at))
 }
 
 // The same, as a length.
@@ -125,24 +135,12 @@ pub fn count(s: &[u8], at: usize) -> usize
     number(s, at) as usize
 }
 
-// The number of two bytes at a place, as a length.
-pub fn short(s: &[u8], at: usize) -> usize
-    requires { at < 4398046511104 }
-    ensures { (result ≡ short_at s.now at) × (result < 65536) }
+// The number of two bytes at a place: one call of the library, as in `number`. Step code i of a field of codes stands at 2 * i.
+pub fn short(s: &[u8], at: usize) -> u16
+    requires { at < 18446744073709551614 }
+    ensures { result ≡ short_at s.now at }
 {
-    let a = usize::from(byte(s, at));
-    let b = usize::from(byte(s, at + 1));
-    a + 256 * b
-}
-
-// Step code i of a field of codes.
-pub fn code(codes: &[u8], i: usize) -> u16
-    requires { i < 65536 }
-    ensures { result ≡ code_at codes.now i }
-{
-    let a = u16::from(byte(codes, 2 * i));
-    let b = u16::from(byte(codes, 2 * i + 1));
-    a + 256 * b
+    u16::from_le_bytes(bytes(s, at))
 }
 
 // The n bytes at a place, or what there is of them.
@@ -154,11 +152,10 @@ pub fn part(s: &[u8], at: usize, n: usize) -> &[u8]
 }
 
 // A product of a width and a count.
-fn product(width: usize, n: usize) -> usize
-    requires { (width < 256) × (n < 65536) }
+fn product(width: u8, n: u16) -> usize
     ensures { (result ≡ width * n) × (result < 16777216) }
 {
-    width * n
+    usize::from(width) * usize::from(n)
 }
 
 // The bytes of the entries of the field at a place.
@@ -166,11 +163,11 @@ fn entries_size(rec: &[u8], at: usize) -> usize
     requires { at < 2199023255552 }
     ensures { (result ≡ entries_size rec.now at) × (result < 16777216) }
 {
-    let width = usize::from(byte(rec, at + 1));
-    product(width, short(rec, at + 2))
+    product(byte(rec, at + 1), short(rec, at + 2))
 }
 
 // Where the field with a tag begins, or the place behind all fields where there is none.
+// No `Option`: `field_of` and `has_field` read a missing field there, where a filled record has ended.
 fn place(rec: &[u8], tag: u8) -> usize
     ensures { (result ≡ place_of (short_at rec.now 6) rec.now tag 8) × (result < 2199023255552) }
 {
@@ -200,30 +197,28 @@ pub fn has(rec: &[u8], tag: Tag) -> bool
     byte(rec, place(rec, tag)) == tag
 }
 
-// The reaches, the greatest length and the allowances.
-// desk_text has the same six numbers, and neither stands on the other.
+// The reaches and the greatest length, and the allowances.
 #[derive(Clone, Copy)]
 pub struct Limits {
-    pub dup_max: usize,
-    pub swap_max: usize,
-    pub max_len: usize,
-    pub max_expansions: usize,
-    pub states_without: usize,
-    pub states_with: usize,
+    pub cfg: SearchCfg,
+    pub allowances: Allowances,
 }
 
 pub fn limits_of(limits: &[u8]) -> Limits
-    ensures dup_max_value { (result.dup_max ≡ number_at limits.now 0) × (result.swap_max ≡ number_at limits.now 4) × (result.max_len ≡ number_at limits.now 8) }
-    ensures max_expansions_value { (result.max_expansions ≡ number_at limits.now 12) × (result.states_without ≡ number_at limits.now 16) × (result.states_with ≡ number_at limits.now 20) }
+    ensures dup_max_value { (result.cfg.dup_max ≡ number_at limits.now 0) × (result.cfg.swap_max ≡ number_at limits.now 4) × (result.cfg.max_len ≡ number_at limits.now 8) }
+    ensures max_expansions_value { (result.allowances.max_expansions ≡ number_at limits.now 12) × (result.allowances.states_without ≡ number_at limits.now 16) × (result.allowances.states_with ≡ number_at limits.now 20) }
 {
-    Limits {
+    let cfg = SearchCfg {
         dup_max: count(limits, 0),
         swap_max: count(limits, 4),
         max_len: count(limits, 8),
+    };
+    let allowances = Allowances {
         max_expansions: count(limits, 12),
         states_without: count(limits, 16),
         states_with: count(limits, 20),
-    }
+    };
+    Limits { cfg, allowances }
 }
 
 // How many items lie beneath the window: a number of eight bytes, the lower four first.
@@ -241,7 +236,7 @@ pub fn passed(counts: &[u8], at: usize, all: usize) -> usize
     if counts.len() < 4 {
         all
     } else {
-        short(counts, at)
+        usize::from(short(counts, at))
     }
 }
 
@@ -260,17 +255,18 @@ pub fn places(lent: &[u8], steps: usize) -> usize
 pub fn price_list<'a>(bytes: &'a [u8], rec: &[u8]) -> &'a [u8]
     ensures { result.now ≡ take 784 (drop (short_at bytes.now 8 + 784 * short_at (field_of rec.now 4) 0) bytes.now) }
 {
-    let i = short(field(rec, Tag::Tables), 0);
-    part(bytes, short(bytes, 8) + 784 * i, 784)
+    let i = usize::from(short(field(rec, Tag::Tables), 0));
+    part(bytes, usize::from(short(bytes, 8)) + 784 * i, 784)
 }
 
 pub fn kinds<'a>(bytes: &'a [u8], rec: &[u8]) -> &'a [u8]
     ensures { result.now ≡ take (passed_at (field_of rec.now 5) 2 64) (drop (short_at bytes.now 8 + 784 * short_at bytes.now 10 + 64 * short_at (field_of rec.now 4) 2) bytes.now) }
 {
-    let i = short(field(rec, Tag::Tables), 2);
+    let tables = usize::from(short(bytes, 8)) + 784 * usize::from(short(bytes, 10));
+    let i = usize::from(short(field(rec, Tag::Tables), 2));
     part(
         bytes,
-        short(bytes, 8) + 784 * short(bytes, 10) + 64 * i,
+        tables + 64 * i,
         passed(field(rec, Tag::Passed), 2, 64),
     )
 }
@@ -279,22 +275,20 @@ pub fn kinds<'a>(bytes: &'a [u8], rec: &[u8]) -> &'a [u8]
 pub fn records_at(bytes: &[u8]) -> Option<usize>
     ensures { IfSome result (λ from. from ≤ length bytes.now) }
 {
-    let from = short(bytes, 8) + 784 * short(bytes, 10) + 64 * short(bytes, 14);
+    let prices = usize::from(short(bytes, 8)) + 784 * usize::from(short(bytes, 10));
+    let from = prices + 64 * usize::from(short(bytes, 14));
     let named = bytes.starts_with(b"NIMSKV2\n");
     let fits = short(bytes, 12) == 196 && short(bytes, 16) == 64;
-    if named && fits && from <= bytes.len() {
-        Some(from)
-    } else {
-        None
-    }
+    (named && fits && from <= bytes.len()).then_some(from)
 }
 
-// The bytes of an entry of the field with a tag, 0 for a tag that is not known.
-fn width_of(tag: u8) -> u8
-    ensures { result ≡ width_of tag }
+// The bytes of an entry of the field with a tag, if the tag is known.
+fn width_of(tag: u8) -> Option<u8>
+    ensures { IfSome result (λ width. (width ≡ width_of tag) × (0 < width)) }
 {
-    let widths: [u8; 15] = [0, 1, 1, 4, 2, 2, 4, 4, 2, 4, 2, 1, 1, 4, 4];
-    byte(&widths, tag as usize)
+    let widths: [u8; 14] = [1, 1, 4, 2, 2, 4, 4, 2, 4, 2, 1, 1, 4, 4];
+    let i = usize::from(tag).checked_sub(1)?;
+    widths.get(i).copied()
 }
 
 // Whether the field at a place is known and stands behind the tag before it.
@@ -303,8 +297,7 @@ fn is_known(rec: &[u8], at: usize, last: u8) -> bool
     ensures { result ≡ true → FieldKnown rec.now at last }
 {
     let tag = byte(rec, at);
-    let width = width_of(tag);
-    last < tag && width != 0 && byte(rec, at + 1) == width
+    last < tag && width_of(tag) == Some(byte(rec, at + 1))
 }
 
 // Whether all fields are known, stand by rising tag and fill the record.
@@ -334,7 +327,7 @@ fn fits_passed(counts: &[u8]) -> bool {
 // Whether a record's call and tables are there.
 fn is_there(bytes: &[u8], rec: &[u8]) -> bool {
     let tables = field(rec, Tag::Tables);
-    Call::try_from(short(rec, 4)).is_ok()
+    Call::try_from(usize::from(short(rec, 4))).is_ok()
         && fits_passed(field(rec, Tag::Passed))
         && short(tables, 0) < short(bytes, 10)
         && short(tables, 2) < short(bytes, 14)
@@ -368,11 +361,7 @@ pub fn record_at(bytes: &[u8], at: usize) -> Option<&[u8]>
 {
     let size = count(part(bytes, at, 4), 0);
     let rec = part(bytes, at, size);
-    if rec.len() == size && is_whole(bytes, rec) {
-        Some(rec)
-    } else {
-        None
-    }
+    (rec.len() == size && is_whole(bytes, rec)).then_some(rec)
 }
 
 // The tag of the field that keeps the record at a place from being read, if that is why.

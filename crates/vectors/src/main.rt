@@ -10,18 +10,21 @@ ghost use Rattle.vectors.specs.File.{IsPrefixLen};
 
 use arrayvec::ArrayVec;
 use compare::{same_answer, same_count, same_fields, same_keys, same_steps};
-use file::{Call, ENTRIES, FILE, NODES, OPEN, STEPS, Tag, count, field, number};
-use rooms::{cut, fill_result, fill_steps, fill_work};
+use file::{
+    Call, ENTRIES, FILE, Limits, NODES, OPEN, STEPS, Tag, count, field, limits_of, number, short,
+};
+use rooms::{NO_KEY, cut, fill, fill_work, pattern};
 use star_swap::Written;
+use std::fmt::{self, Display, Formatter};
 use std::fs::File;
 use std::io;
 use std::io::Read;
 
-// How many records are read, which differs first and how many differ.
+// How many records are read, which differs first, if any does, and how many differ.
 #[derive(Clone, Copy, Default)]
 struct Tally {
     records: usize,
-    first: usize,
+    first: Option<usize>,
     wrong: usize,
 }
 
@@ -49,24 +52,24 @@ fn check_plan(
     heads: &mut [u64],
     list: &mut [u64],
 ) -> bool {
-    let q = file::limits_of(field(rec, Tag::Limits));
+    let Limits { cfg, allowances } = limits_of(field(rec, Tag::Limits));
     let lent = field(rec, Tag::Lent);
     let s = cut(count(lent, 0), steps);
     let n = cut(count(lent, 4), nodes);
     let h = cut(count(lent, 8), heads);
     let l = cut(count(lent, 12), list);
     let steps = &mut steps[..s];
-    fill_steps(steps);
+    fill(steps, pattern);
     let r = planner::plan(
         field(rec, Tag::Start),
         field(rec, Tag::Goal),
-        q.dup_max,
-        q.swap_max,
-        q.max_len,
+        cfg.dup_max,
+        cfg.swap_max,
+        cfg.max_len,
         file::beneath_of(field(rec, Tag::Beneath)),
-        q.max_expansions,
-        q.states_without,
-        q.states_with,
+        allowances.max_expansions,
+        allowances.states_without,
+        allowances.states_with,
         tables.kinds,
         tables.prices,
         steps,
@@ -84,15 +87,15 @@ fn same_popped(rec: &[u8], popped: &[u8]) -> bool {
 
 // Whether replay answers as the record says and writes the record's end window and popped keys alone.
 fn replay_as(rec: &[u8], kinds: &[u8], steps: &[u16], res: &mut [u8], popped: &mut [u8]) -> bool {
-    let q = file::limits_of(field(rec, Tag::Limits));
-    fill_result(res);
-    fill_result(popped);
+    let cfg = limits_of(field(rec, Tag::Limits)).cfg;
+    res.fill(NO_KEY);
+    popped.fill(NO_KEY);
     let r = replay::replay(
         field(rec, Tag::Start),
         steps,
-        q.dup_max,
-        q.swap_max,
-        q.max_len,
+        cfg.dup_max,
+        cfg.swap_max,
+        cfg.max_len,
         file::beneath_of(field(rec, Tag::Beneath)),
         kinds,
         res,
@@ -114,15 +117,15 @@ fn check_replay(rec: &[u8], kinds: &[u8], steps: &[u16]) -> bool {
 
 // Whether stepping back from the record's end window answers as the record says and writes the record's start alone.
 fn rewind_as(rec: &[u8], kinds: &[u8], steps: &[u16], res: &mut [u8]) -> bool {
-    let q = file::limits_of(field(rec, Tag::Limits));
-    fill_result(res);
+    let cfg = limits_of(field(rec, Tag::Limits)).cfg;
+    res.fill(NO_KEY);
     let r = rewind::rewind(
         field(rec, Tag::Start),
         steps,
         field(rec, Tag::Popped),
-        q.dup_max,
-        q.swap_max,
-        q.max_len,
+        cfg.dup_max,
+        cfg.swap_max,
+        cfg.max_len,
         file::beneath_of(field(rec, Tag::Beneath)),
         kinds,
         res,
@@ -138,15 +141,15 @@ fn check_rewind(rec: &[u8], kinds: &[u8], steps: &[u16]) -> bool {
 }
 
 fn check_mark(rec: &[u8], tables: Tables<'_>, steps: &[u16]) -> bool {
-    let q = file::limits_of(field(rec, Tag::Limits));
+    let cfg = limits_of(field(rec, Tag::Limits)).cfg;
     let ceiling = field(rec, Tag::Ceiling);
     let r = marking::mark(
         field(rec, Tag::Start),
         field(rec, Tag::Goal),
         steps,
-        q.dup_max,
-        q.swap_max,
-        q.max_len,
+        cfg.dup_max,
+        cfg.swap_max,
+        cfg.max_len,
         file::beneath_of(field(rec, Tag::Beneath)),
         tables.kinds,
         tables.prices,
@@ -181,7 +184,7 @@ fn check_built<F: FnOnce(&[u8], &[u8], usize, &mut [u16]) -> Written>(
 {
     let n = cut(count(field(rec, Tag::Lent), 0), list);
     let steps = &mut list[..n];
-    fill_steps(steps);
+    fill(steps, pattern);
     let swap_max = count(field(rec, Tag::Limits), 4);
     let r = build(
         field(rec, Tag::Start),
@@ -199,7 +202,7 @@ fn asked(rec: &[u8], list: &mut [u16]) -> usize
 {
     let codes = field(rec, Tag::Asked);
     let n = cut(codes.len() / 2, list);
-    rooms::load_steps(codes, &mut list[..n]);
+    fill(&mut list[..n], |i| short(codes, 2 * i));
     n
 }
 
@@ -219,7 +222,7 @@ fn check_record(
         kinds,
         prices: &table[..n],
     };
-    let Ok(call) = Call::try_from(file::short(rec, 4)) else {
+    let Ok(call) = Call::try_from(usize::from(short(rec, 4))) else {
         return false;
     };
     match call {
@@ -254,11 +257,7 @@ impl Tally {
         }
         Tally {
             records,
-            first: if self.wrong == 0 {
-                self.records
-            } else {
-                self.first
-            },
+            first: self.first.or(Some(self.records)),
             wrong: self.wrong + 1,
         }
     }
@@ -309,25 +308,30 @@ fn check_file(bytes: &[u8]) -> Result<Tally, Unreadable> {
     check_records(bytes, from, &mut steps, &mut nodes, &mut heads, &mut list)
 }
 
-// Which record cannot be read, and which of its fields is not known, if that is why.
-fn say_unreadable(rt: &impl Print, unreadable: Unreadable) -> io::Result<()> {
-    let record = unreadable.record;
-    match unreadable.field {
-        Some(tag) => println!(rt;
-            "unreadable at record {record}: field {tag} is not known or out of order"
-        ),
-        None => println!(rt; "unreadable at record {record}"),
+// How many records there are, or the first that differs and how many do.
+impl Display for Tally {
+    fn fmt<W: fmt::Write>(&self, f: &mut Formatter<W>) -> fmt::Result {
+        let records = self.records;
+        let wrong = self.wrong;
+        match self.first {
+            None => write!(f, "{records} vectors as expected"),
+            Some(first) => write!(f, "record {first} differs, {wrong} of {records} differ"),
+        }
     }
 }
 
-fn say(rt: &impl Print, tally: Tally) -> io::Result<()> {
-    let records = tally.records;
-    let first = tally.first;
-    let wrong = tally.wrong;
-    if wrong == 0 {
-        return println!(rt; "{records} vectors as expected");
+// Which record cannot be read, and which of its fields is not known, if that is why.
+impl Display for Unreadable {
+    fn fmt<W: fmt::Write>(&self, f: &mut Formatter<W>) -> fmt::Result {
+        let record = self.record;
+        match self.field {
+            Some(tag) => write!(
+                f,
+                "unreadable at record {record}: field {tag} is not known or out of order"
+            ),
+            None => write!(f, "unreadable at record {record}"),
+        }
     }
-    println!(rt; "record {first} differs, {wrong} of {records} differ")
 }
 
 fn main(rt: HostRuntime) -> io::Result<()> {
@@ -340,7 +344,7 @@ fn main(rt: HostRuntime) -> io::Result<()> {
     // A read that fails ends the file, as its end does.
     let _ = io::copy(&mut file.take(FILE as u64), &mut bytes);
     match check_file(&bytes) {
-        Ok(tally) => say(&rt, tally),
-        Err(unreadable) => say_unreadable(&rt, unreadable),
+        Ok(tally) => println!(rt; "{tally}"),
+        Err(unreadable) => println!(rt; "{unreadable}"),
     }
 }

@@ -3,7 +3,7 @@
 
 ghost use Rattle.std.specs.Prelude.{◌≡◌, List, ◌∷◌, ◌++◌, ℕ, ◌+◌, ◌-◌, ◌*◌, ◌/◌, ◌%◌, ◌^◌, ◌≤◌, ◌<◌, length, get_or, set, drop, eqb, ltb, IfOk};
 ghost use Rattle.window.specs.Pack.{Keys};
-ghost use Rattle.window.specs.Packing.{packing, pack_refusal};
+ghost use Rattle.window.specs.Packing.{packing, pack_refusal, packing_of};
 ghost use Rattle.costs.specs.Refusal.{refusal_of};
 ghost use Rattle.window.specs.State.{Held, whole, swapped};
 ghost use Rattle.window.specs.Keys.{keys_of, Window};
@@ -35,27 +35,36 @@ pub struct Packing {
     pub hi: u64,
 }
 
-#[tactic(auto, unfolding(crate::specs::Packing::packing, crate::specs::State::whole))]
-// The window of the keys, top first, as its low and its high 64 bits.
-pub fn pack(ids: &[u8]) -> Packing
-    ensures { result ≡ packing 6 21 ids.now }
-{
-    match packed(ids) {
-        Ok(s) => Packing {
-            refusal: 0,
-            lo: s.lo,
-            hi: s.hi,
-        },
-        Err(refusal) => Packing {
-            refusal: refusal.number(),
-            lo: 0,
-            hi: 0,
-        },
+// Beside a refusal both halves are zero.
+impl From<Result<PackedState, Refusal>> for Packing {
+    ghost from_gives = { λ answer packing. packing ≡ packing_of answer };
+
+    fn from(answer: Result<PackedState, Refusal>) -> Packing {
+        match answer {
+            Ok(s) => Packing {
+                refusal: 0,
+                lo: s.lo,
+                hi: s.hi,
+            },
+            Err(refusal) => Packing {
+                refusal: refusal.number(),
+                lo: 0,
+                hi: 0,
+            },
+        }
     }
 }
 
-#[tactic(auto, unfolding(crate::specs::Packing::pack_refusal))]
+// The window of the keys, top first, as its low and its high 64 bits.
+#[tactic(auto, unfolding(crate::specs::Packing::packing, crate::specs::State::whole))]
+pub fn pack(ids: &[u8]) -> Packing
+    ensures { result ≡ packing 6 21 ids.now }
+{
+    Packing::from(packed(ids))
+}
+
 // The window of the keys, or why there is none.
+#[tactic(auto, unfolding(crate::specs::Packing::pack_refusal))]
 fn packed(ids: &[u8]) -> Result<PackedState, Refusal>
     ensures refusal { refusal_of result ≡ pack_refusal 6 21 ids.now }
     ensures held { IfOk result (λ s. Held 6 s ids.now) }
@@ -129,6 +138,8 @@ impl PackedState {
         }
     }
 
+    // The window with the key on top.
+    // A key is a byte of a list that C lends and no type of its own, so that it is below 64 is asked.
     pub fn push(self, key: u8) -> PackedState
         requires { ((xs : List ℕ) × Held 6 self xs × (length xs < 21)) × (key < 64) }
         ensures { (xs : List ℕ) → Held 6 self xs → Held 6 result (key ∷ xs) }
@@ -139,7 +150,7 @@ impl PackedState {
         }
     }
 
-    // The window with the key at idx, which is was, replaced.
+    // The window with the key at idx, which is was, replaced. The key is below 64 as in `push`, and in `set`.
     fn replace(mut self, idx: usize, was: u8, key: u8) -> PackedState
         requires { ((xs : List ℕ) × Held 6 self xs × (idx < length xs) × (was ≡ get_or xs idx 0)) × (key < 64) }
         ensures { (xs : List ℕ) → Held 6 self xs → idx < length xs → Held 6 result (set xs idx key) }

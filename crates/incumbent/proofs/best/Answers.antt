@@ -5,10 +5,10 @@ use Rattle.costs.specs.declared.Cost.{Cost}
 use Rattle.incumbent.specs.Hand.{Held, offered, in_hand}
 use Rattle.incumbent.proofs.best.Goals as goal
 
-pub returns-clause-held : goal.returns-clause-held
+pub returns : goal.returns
 unfolding in_hand
-returns-clause-held c =
+returns c =
     let flush : Cost → Held = λ bound. record { bound = bound; origin = 0; plan = [] } in
-    c.offer.ensures.held
-    ∙ ap₂ (offered c.args.prices.now 2) c.dup_and_star-dup.ensures.plan
-    (c.offer-hand.ensures.held ∙ ap₂ (offered c.args.prices.now 1) c.tail_plan-tail.ensures.plan (ap flush c.flush_cost.ensures))
+    c.offer.ensures
+    ∙ ap₂ (offered c.args.task.now.prices.now 2) c.dup_and_star-dup.ensures.plan
+    (c.offer-hand.ensures ∙ ap₂ (offered c.args.task.now.prices.now 1) c.tail_plan-tail.ensures.plan (ap flush c.flush_cost.ensures))

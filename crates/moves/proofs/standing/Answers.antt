@@ -2,9 +2,7 @@ use Rattle.moves.specs.Told.{asking_fit, asking_bare}
 use Rattle.moves.proofs.standing.Goals as goal
 
 pub bare-base-requires : goal.bare-base-requires
-bare-base-requires c =
-    let a = c.requires.2.1 in
-    (asking_fit _ _ _ _ a, a.wanted.size)
+bare-base-requires c = asking_fit _ _ _ _ c.requires.2.1
 
 pub standing-requires : goal.standing-requires
 standing-requires c =

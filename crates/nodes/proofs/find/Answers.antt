@@ -1,4 +1,5 @@
-use Rattle.nodes.proofs.Lemmas.{walk_start, walk_next, walk_found, walk_none}
+use Rattle.std.proofs.Common.{rules}
+use Rattle.nodes.proofs.Lemmas.{walk_start, walk_next, walk_found, walk_none, fewer_left}
 use Rattle.nodes.proofs.find.Goals as goal
 
 pub loop-cur-init : goal.loop-cur-init
@@ -12,3 +13,6 @@ loop-cur-preserved c = search (walk_next)
 
 pub returns : goal.returns
 returns c = search (walk_none)
+
+pub loop-cur-smaller : goal.loop-cur-smaller
+loop-cur-smaller c = fewer_left _ _ _ _ (search rules) c.next-cur.ensures

@@ -7,7 +7,8 @@ use Rattle.replay.specs.Machine.{rules_of}
 use Rattle.astar.specs.Planner.{Answer as Answered}
 use Rattle.astar.specs.Search.{number}
 use Rattle.incumbent.specs.Hand.{held_of}
-use Rattle.planner.specs.Refusal.{asked, allowances, lent}
+use Rattle.planner.specs.Refusal.{lent}
+use Rattle.planner.specs.Given.{task_asked}
 use Rattle.planner.specs.Accepted.{search_question, search_start, search_room}
 use Rattle.planner.specs.Planned.{plan_held, given}
 use Rattle.run.specs.Ending.{ended_by}
@@ -18,15 +19,16 @@ use Rattle.planner.proofs.with_search.Goals as goal
 pub search_from-came-requires : goal.search_from-came-requires
 search_from-came-requires c =
     let a = c.args in
-    let q = asked (rules_of a.rules) a.prices.now a.start.now a.goal.now (allowances a.a.max_expansions a.a.states_without a.a.states_with) in
+    let t = a.task.now in
+    let q = task_asked t a.a in
     let l = lent (length a.steps.now) (length a.nodes.now) (length a.heads.now) (length a.list.now) in
     record {
-      heads_nonzero = omega (arith, c.requires.accepted.heads);
-      roomy = search_room q a.a a.nodes.now a.list.now l refl refl refl c.requires.accepted;
-      accepted = search_question q a.rules.cfg a.rules.kinds.now refl l c.requires.accepted;
-      start_fits = search_start q a.rules.cfg a.rules.kinds.now refl l c.requires.accepted;
-      most_in_bounds = omega (arith, c.requires.accepted.steps);
-      most_bound = c.requires.accepted.expansions;
+      heads_nonzero = omega (arith, c.requires.heads);
+      roomy = search_room q a.a a.nodes.now a.list.now l refl refl refl c.requires;
+      accepted = search_question q t.rules.cfg t.rules.kinds.now refl l c.requires;
+      start_fits = search_start q t.rules.cfg t.rules.kinds.now refl l c.requires;
+      most_in_bounds = omega (arith, c.requires.steps);
+      most_bound = c.requires.expansions;
     }
 
 pub slice_bounds-highest-end : goal.slice_bounds-highest-end
@@ -35,25 +37,28 @@ slice_bounds-highest-end c = omega (arith, c.search_from-came.ensures.fits, ap s
 pub returns-in-Some : goal.returns-in-Some
 returns-in-Some c =
     let a = c.args in
-    let have : c.is_some-have.result ≡ is_some a.hand.plan = search in
-    searched_found _ a.start.now a.a a.hand a.held.now _ c.search_from-came.result a.steps.now c.search_from-came.new.steps c.search_from-came.ensures have c.in-Some.plan c.in-Some.is c.highest.result c.highest.ensures
+    let t = a.task.now in
+    let have : c.is_some.result ≡ is_some a.hand.plan = search in
+    searched_found _ t.start.now a.a a.hand a.held.now _ _ c.search_from-came.result a.steps.now c.search_from-came.new.steps c.search_from-came.ensures c.from.ensures have c.in-Some.plan c.in-Some.is c.highest.result c.highest.ensures
 
 pub give_held-plan-requires : goal.give_held-plan-requires
 give_held-plan-requires c =
     let a = c.args in
-    let have : c.is_some-have.result ≡ is_some a.hand.plan = search in
+    let t = a.task.now in
+    let have : c.is_some.result ≡ is_some a.hand.plan = search in
     let none : c.search_from-came.result.plan ≡ None = search in
-    let k = ap length (unwritten _ a.start.now a.a a.hand a.held.now _ c.search_from-came.result a.steps.now c.search_from-came.new.steps c.search_from-came.ensures have none) in
-    (c.requires.in_hand.0, c.requires.in_hand.1, omega (arith, k, c.requires.accepted.steps))
+    let k = ap length (unwritten _ t.start.now a.a a.hand a.held.now _ _ c.search_from-came.result a.steps.now c.search_from-came.new.steps c.search_from-came.ensures c.from.ensures have none) in
+    omega (arith, k, c.requires.steps)
 
 pub returns-in-None : goal.returns-in-None
 returns-in-None c =
     let a = c.args in
+    let t = a.task.now in
     let r = c.search_from-came.result in
-    let have : c.is_some-have.result ≡ is_some a.hand.plan = search in
+    let have : c.is_some.result ≡ is_some a.hand.plan = search in
     let none : c.search_from-came.result.plan ≡ None = search in
     c.give_held-plan.ensures (number (ended_by r.ending)) r.expansions
-    ∙ ap (λ (z : List ℕ). given (rules_of a.rules) a.start.now (record { plan = plan_held (held_of a.hand a.held.now); ending = number (ended_by r.ending); expansions = r.expansions }) z)
-    (unwritten _ a.start.now a.a a.hand a.held.now _ r a.steps.now c.search_from-came.new.steps c.search_from-came.ensures have none)
-    ∙ ap (λ (t : Answered Cost ℕ). given (rules_of a.rules) a.start.now t a.steps.now)
-    (searched_lost _ a.start.now a.a a.hand a.held.now _ r a.steps.now c.search_from-came.new.steps c.search_from-came.ensures have none)
+    ∙ ap (λ (z : List ℕ). given (rules_of t.rules) t.start.now (record { plan = plan_held (held_of a.hand a.held.now); ending = number (ended_by r.ending); expansions = r.expansions }) z)
+    (unwritten _ t.start.now a.a a.hand a.held.now _ _ r a.steps.now c.search_from-came.new.steps c.search_from-came.ensures c.from.ensures have none)
+    ∙ ap (λ (x : Answered Cost ℕ). given (rules_of t.rules) t.start.now x a.steps.now)
+    (searched_lost _ t.start.now a.a a.hand a.held.now _ _ r a.steps.now c.search_from-came.new.steps c.search_from-came.ensures c.from.ensures have none)

@@ -1,5 +1,5 @@
 -- What each step asks of the window, and the window after it, by the step that each arm is given.
-use Rattle.std.proofs.Common.{arith, length-drop, length-set}
+use Rattle.std.proofs.Common.{arith, inl, inr, length-drop, length-set}
 use Prim.Native.Nat.{ℕ, ◌≤◌}
 use Rattle.std.proofs.Math.Path.{◌≡◌, ◌∙◌}
 use Rattle.std.specs.Prelude.{List, length}
@@ -17,25 +17,6 @@ settled r v w h l e = (held_window r v h l, held_keys r v h l ∙ e)
 pub pop-requires : goal.pop-requires
 pop-requires c =
     (_, (_, held_first _ _ c.requires.0 (at_step _ _ _ c.in-Pop.is c.requires.1)))
-
-pub dup-requires : goal.dup-requires
-dup-requires c =
-    let h = at_step _ _ _ c.in-Dup.is c.requires.1 in
-    (_, c.requires.0, h.0, h.1)
-
-pub swap-requires : goal.swap-requires
-swap-requires c =
-    (_, c.requires.0, at_step _ _ _ c.in-Swap.is c.requires.1)
-
-pub push-requires : goal.push-requires
-push-requires c =
-    let h = at_step _ _ _ c.in-PushImm.is c.requires.1 in
-    ((_, c.requires.0, h.1), h.0)
-
-pub push-requires-in-LoadVal : goal.push-requires-in-LoadVal
-push-requires-in-LoadVal c =
-    let h = at_step _ _ _ c.in-LoadVal.is c.requires.1 in
-    ((_, c.requires.0, h.1), h.0)
 
 pub returns-in-Pop : goal.returns-in-Pop
 unfolding after
@@ -59,14 +40,11 @@ returns-in-Swap c =
 
 pub returns-in-PushImm : goal.returns-in-PushImm
 unfolding after
-returns-in-PushImm c =
-    let e = c.in-PushImm.is in
-    let h = at_step _ _ _ e c.requires.1 in
-    settled _ _ _ (c.push.ensures _ c.requires.0) (omega (arith, h.1)) (rw e)
-
-pub returns-in-LoadVal : goal.returns-in-LoadVal
-unfolding after
-returns-in-LoadVal c =
-    let e = c.in-LoadVal.is in
-    let h = at_step _ _ _ e c.requires.1 in
-    settled _ _ _ (c.push-in-LoadVal.ensures _ c.requires.0) (omega (arith, h.1)) (rw e)
+returns-in-PushImm c = elim c.in-PushImm.is [
+  | inl e ↦
+      let h = at_step _ _ _ e c.requires.1 in
+      settled _ _ _ (c.push.ensures _ c.requires.0) (omega (arith, h.1)) (rw e)
+  | inr e ↦
+      let h = at_step _ _ _ e c.requires.1 in
+      settled _ _ _ (c.push.ensures _ c.requires.0) (omega (arith, h.1)) (rw e)
+]

@@ -2,7 +2,10 @@
 use Rattle.std.proofs.Common.{sym, ap, ◌∙◌, arith, eqb-true}
 use Rattle.std.proofs.lemmas.Bool.{eqb-false}
 use Rattle.std.proofs.lemmas.Grind.{common_steps}
-use Rattle.std.specs.Prelude.{◌≡◌, [], ◌∷◌, ◌++◌, None}
+use Rattle.std.specs.Prelude.{ℕ, Bool, true, false, ◌≡◌, List, [], ◌∷◌, ◌++◌, Option, None, length, reverse, eqb}
+use Rattle.window.specs.declared.PackedState.{PackedState}
+use Rattle.rewind.specs.Walk.{all_back}
+use Rattle.std.specs.Bool.{then_some}
 use Rattle.std.specs.Option.{option_map}
 use Rattle.std.specs.Slice.Iter.{iter_rest}
 use Rattle.std.specs.Iterator.Adapters.{rev_source}
@@ -29,14 +32,13 @@ returns-in_err-at-clause-start c =
     let k : c.from_residual.result ≡ None = grind (arith, common_steps) in
     rw k (sym (walking_turn _ _ _ _ _ _ front _ c.loop-code.invariant e None (sym (ap (option_map back_of) c.in_err-at.was) ∙ c.step_back.ensures)))
 
-pub returns-then-is_empty-clause-start : goal.returns-then-is_empty-clause-start
-returns-then-is_empty-clause-start c =
-    let e : iter_rest (rev_source c.loop-code.code-iterator) ≡ [] = grind (arith, common_steps) in
-    let at = c.loop-code.at in
-    sym (walking_last _ _ _ _ _ _ c.loop-code.invariant e ∙ none_left (keys_of at.state) at.left.now (eqb-true _ _ (sym c.is_empty.ensures ∙ c.if-is_empty.true)))
+-- the window where no popped key is left, and none where one is
+whole : (s : PackedState) (left : List ℕ) (b : Bool) (o : Option PackedState) → b ≡ eqb (length left) 0 → o ≡ then_some b s → option_map keys_of o ≡ all_back (keys_of s) (reverse left)
+whole s left true o e k = rw k (sym (none_left (keys_of s) left (eqb-true _ _ (sym e))))
+whole s left false o e k = rw k (sym (some_left (keys_of s) left (eqb-false _ _ (sym e))))
 
-pub returns-else-is_empty-clause-start : goal.returns-else-is_empty-clause-start
-returns-else-is_empty-clause-start c =
+pub returns-clause-start : goal.returns-clause-start
+returns-clause-start c =
     let e : iter_rest (rev_source c.loop-code.code-iterator) ≡ [] = grind (arith, common_steps) in
     let at = c.loop-code.at in
-    sym (walking_last _ _ _ _ _ _ c.loop-code.invariant e ∙ some_left (keys_of at.state) at.left.now (eqb-false _ _ (sym c.is_empty.ensures ∙ c.if-is_empty.false)))
+    whole at.state at.left.now _ _ c.is_empty.ensures c.then_some.ensures ∙ sym (walking_last _ _ _ _ _ _ c.loop-code.invariant e)

@@ -9,4 +9,4 @@ pub run-requires-clause-all_valid : goal.run-requires-clause-all_valid
 run-requires-clause-all_valid c = start_waits _ _ _ _ _ _ c.begin-sizes.ensures c.requires.window
 
 pub returns : goal.returns
-returns c = went _ _ _ _ _ _ _ _ _ _ _ _ c.begin-sizes.ensures c.run.ensures
+returns c = went _ _ _ _ _ _ _ _ _ _ _ c.begin-sizes.ensures c.run.ensures

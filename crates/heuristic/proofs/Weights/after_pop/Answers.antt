@@ -6,7 +6,7 @@ pub copy-requires : goal.copy-requires
 copy-requires c =
     let p = c.requires.1 in
     let m = popping _ _ _ _ _ _ p.0 p.1.0 c.requires.0 _ refl p.1.1 in
-    record { prices_cheap = m.prices_cheap; place = m.place; wanted = m.wanted; copies = m.news }
+    record { prices_cheap = m.prices_cheap; place = c.requires.0; wanted = m.wanted; copies = m.news }
 
 pub overflow_sub-result : goal.overflow_sub-result
 overflow_sub-result c =

@@ -6,7 +6,7 @@ pub copy-requires : goal.copy-requires
 copy-requires c =
     let p = c.requires.1 in
     let m = pushing _ _ _ _ _ _ p.0 p.1.0 c.requires.0 p.1.1 p.1.2 in
-    record { prices_cheap = m.prices_cheap; place = m.place; wanted = m.wanted; copies = m.olds }
+    record { prices_cheap = m.prices_cheap; place = c.requires.0; wanted = m.wanted; copies = m.olds }
 
 pub overflow_add-result : goal.overflow_add-result
 overflow_add-result c =

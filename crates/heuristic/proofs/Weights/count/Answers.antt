@@ -2,9 +2,6 @@ use Rattle.std.proofs.Common.{arith}
 use Rattle.heuristic.specs.Steady.{few_counted, standing_on}
 use Rattle.heuristic.proofs.Weights.count.Goals as goal
 
-pub bounds-have-key : goal.bounds-have-key
-bounds-have-key c = omega (arith, c.requires.1.1.1.counted.size)
-
 pub overflow_add-have : goal.overflow_add-have
 overflow_add-have c =
     let p = c.requires.1 in
