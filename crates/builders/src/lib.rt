@@ -63,18 +63,8 @@ impl Work {
         self.state.len()
     }
 
-    // The keys of the window, the top first.
-    fn keys(&self) -> ArrayVec<u8, 21>
-        ensures value { result.items ≡ self.now.window }
-        ensures window { Window self.now.window }
-    {
-        let mut keys = ArrayVec::from([0; 21]);
-        let n = self.state.write(&mut keys);
-        keys.truncate(n);
-        keys
-    }
-
-    // The same over the first places of the caller's list, which takes less time than a list that is handed back; how many.
+    // The keys of the window, the top first, over the first places of the caller's list, which takes less time than a list that is handed
+    // back; how many.
     fn write(&self, room: &mut [u8; 21]) -> usize
         ensures fits { result ≤ 21 }
         ensures keys { take result room.new ≡ self.now.window }
@@ -119,8 +109,9 @@ impl Work {
         requires { Pair self.old.window goal.now × (length self.old.steps ≤ 98) }
         ensures { self.new.steps ≡ (routed goal.now self.old).steps }
     {
-        let keys = self.keys();
-        star_swap::route(&keys, goal, &mut self.steps);
+        let mut room = [0; 21];
+        let n = self.write(&mut room);
+        star_swap::route(&room[..n], goal, &mut self.steps);
     }
 
     // The place of the highest key of which there are more than `wanted` says.
@@ -187,7 +178,13 @@ impl Work {
     fn place_of(&self, key: u8) -> Option<usize>
         ensures { result ≡ position (λ k. key == k) self.now.window }
     {
-        self.keys().iter().position(|&k| key == k)
+        // Key by key: the one that was added last stands on top.
+        for i in 0..self.len() {
+            if key == self.state.get(i) {
+                return Some(i);
+            }
+        }
+        None
     }
 
     // One key more: a copy from the highest place, or the key made; nothing where the window is full.
@@ -226,7 +223,9 @@ impl Work {
     fn missing(&self, key: u8, want: usize) -> usize
         ensures { result ≡ want - count_of key self.now.window }
     {
-        want.saturating_sub(costs::count_of(&self.keys(), &key))
+        let mut room = [0; 21];
+        let n = self.write(&mut room);
+        want.saturating_sub(usize::from(costs::count_few(&room[..n], &key)))
     }
 
     // The missing keys in rising order.
@@ -251,7 +250,9 @@ impl Work {
         requires { Room self.old × Window goal.now }
         ensures { option_map (λ x. self.new.steps) result ≡ steps_of (finished swap_max goal.now self.old) }
     {
-        if star_swap::not_routable(&self.keys(), goal, swap_max) {
+        let mut room = [0; 21];
+        let n = self.write(&mut room);
+        if star_swap::not_routable(&room[..n], goal, swap_max) {
             return None;
         }
         self.route(goal);

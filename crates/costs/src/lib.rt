@@ -122,9 +122,12 @@ impl TryFrom<u16> for Step {
 
     #[tactic(auto, unfolding(crate::specs::Step::decoded))]
     fn try_from(code: u16) -> Result<Step, UnknownCode> {
+        // A Pop first, by a comparison: a jump by kind is dear where Pops and other steps alternate.
+        if code == 0 {
+            return Ok(Step::Pop);
+        }
         let operand = (code % 256) as u8;
         match code / 256 {
-            0 if operand == 0 => Ok(Step::Pop),
             1 => Ok(Step::Dup(operand)),
             2 => Ok(Step::Swap(operand)),
             3 => Ok(Step::PushImm(operand)),
@@ -227,12 +230,24 @@ pub fn count_of<T: PartialEq>(list: &[T], k: &T) -> usize
     n
 }
 
+// The same of a short list, in a byte: a sum of bytes takes an eighth of the time of a sum of lengths.
+pub fn count_few<T: PartialEq>(list: &[T], k: &T) -> u8
+    requires { length list.now ≤ 255 }
+    ensures { result ≡ length (filter (λ x. T.eq x k.now) list.now) }
+{
+    let mut n: u8 = 0;
+    for entry in list {
+        n += u8::from(entry == k);
+    }
+    n
+}
+
 // Refusal 4, of the kinds.
 #[tactic(auto, unfolding(crate::specs::Table::kinds_fault), using(crate::specs::Laws::count_of_filter))]
 pub fn kinds_fault(kinds: &[u8]) -> bool
     ensures { result ≡ kinds_fault kinds.now }
 {
-    kinds.len() != 64 || any_over(kinds, 2) || 1 < count_of(kinds, &u8::from(Kind::Zero))
+    kinds.len() != 64 || any_over(kinds, 2) || 1 < count_few(kinds, &u8::from(Kind::Zero))
 }
 
 // Refusal 4, of the prices.

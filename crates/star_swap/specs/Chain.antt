@@ -1,5 +1,5 @@
 -- The lists of slots by key, as the table of arcs holds them: what `pick` does to them.
-use Rattle.std.specs.Prelude.{◌≡◌, Bool, true, false, Option, Some, None, List, [], ◌∷◌, ℕ, ◌≤◌, ◌<◌, eqb, length, get_or, set, replicate}
+use Rattle.std.specs.Prelude.{◌≡◌, Bool, true, false, Option, Some, None, List, [], ◌∷◌, ℕ, zero, suc, ◌≤◌, ◌<◌, eqb, length, set, replicate}
 use Rattle.std.proofs.Math.Path.{refl, subst⁻¹}
 use Rattle.std.proofs.Common.{sym, ap, ◌∙◌, arith, get_or-set_same, get_or-set_other}
 use Rattle.std.proofs.Math.Decide.{ℕ_discrete}
@@ -7,19 +7,33 @@ use Rattle.star_swap.specs.Count.{Test, equal, unequal, test}
 use Rattle.star_swap.specs.Star.{at, Pick, nothing, arc, pick_if, pick, trail}
 use Rattle.star_swap.specs.declared.Arcs.{Arcs}
 
-abbrev pub arcs_of : (head next : List (Option ℕ)) → Arcs
+abbrev pub arcs_of : (head next : List ℕ) → Arcs
 arcs_of head next = record { head = head; next = next }
 
 -- no slot yet
 abbrev pub no_arcs : Arcs
-no_arcs = arcs_of (replicate 64 None) (replicate 21 None)
+no_arcs = arcs_of (replicate 64 0) (replicate 21 0)
+
+-- the slot that a byte of a table stands for: slots begin at 1, and 0 stands for none
+unfoldable pub slot_of : ℕ → Option ℕ
+slot_of zero = None
+slot_of (suc i) = Some (suc i)
+
+pub is_none : slot_of 0 ≡ None
+unfolding slot_of
+is_none = refl
+
+pub is_slot : (i : ℕ) → 0 < i → slot_of i ≡ Some i
+unfolding slot_of
+is_slot zero h = absurd (omega arith)
+is_slot (suc i) h = refl
 
 -- the slot at a place of a table, if one stands there
-abbrev pub slot : List (Option ℕ) → ℕ → Option ℕ
-slot l i = get_or l i None
+abbrev pub slot : List ℕ → ℕ → Option ℕ
+slot l i = slot_of (at l i)
 
 -- a list of slots below n in a table, by `next` from h on
-unfoldable pub Chain : ℕ → List (Option ℕ) → Option ℕ → List ℕ → Type 0
+unfoldable pub Chain : ℕ → List ℕ → Option ℕ → List ℕ → Type 0
 Chain n next h [] = h ≡ None
 Chain n next h (i ∷ l) = (h ≡ Some i) × (i < n) × Chain n next (slot next i) l
 
@@ -95,12 +109,12 @@ module _ (k : ℕ) (arcs : Arcs) (lt : k < 64) where
           absurd cc
 
   -- the slot in front goes
-  pub took_some : (i : ℕ) → length arcs.head ≡ 64 → slot arcs.head k ≡ Some i → Took k arcs (Some i) (arcs_of (set arcs.head k (slot arcs.next i)) arcs.next)
+  pub took_some : (i : ℕ) → length arcs.head ≡ 64 → slot arcs.head k ≡ Some i → Took k arcs (Some i) (arcs_of (set arcs.head k (at arcs.next i)) arcs.next)
   unfolding Chained Chain
   took_some i len e = record { each = λ n g R h. go n g R h (pick g k R) (pick_needs g k R) }
     where
       arcs' : Arcs
-      arcs' = arcs_of (set arcs.head k (slot arcs.next i)) arcs.next
+      arcs' = arcs_of (set arcs.head k (at arcs.next i)) arcs.next
 
       go : (n : ℕ) (g : ℕ → ℕ) (R : List ℕ) → Chained n g R arcs → (p : Pick) → Needs g k R p → Taking n g p (Some i) R arcs'
       go n g R h nothing m =
@@ -117,8 +131,8 @@ module _ (k : ℕ) (arcs : Arcs) (lt : k < 64) where
                 subst⁻¹
                 (λ (z : ℕ). Chain n arcs.next (slot arcs'.head z) (needing g z R'))
                 s
-                (rw (get_or-set_same arcs.head k (slot arcs.next i) None (omega arith), x) q.2)
-            | no s ↦ rw (get_or-set_other arcs.head k k' (slot arcs.next i) None s, ← m.1 k' s) (h k' lt')
+                (rw (get_or-set_same arcs.head k (at arcs.next i) 0 (omega arith), x) q.2)
+            | no s ↦ rw (get_or-set_other arcs.head k k' (at arcs.next i) 0 s, ← m.1 k' s) (h k' lt')
           ] in
           (y, q.1, each)
 

@@ -1,15 +1,15 @@
 -- Keys without an arc: their circuits are empty.
-use Rattle.std.specs.Prelude.{◌≡◌, refl, true, false, Option, Some, None, List, [], ◌∷◌, ◌++◌, Bool, not, ◌||◌, ℕ, zero, suc, ◌+◌, ◌*◌, ◌≤◌, ◌<◌, length}
+use Rattle.std.specs.Prelude.{◌≡◌, refl, true, false, Option, Some, None, List, [], ◌∷◌, ◌++◌, Bool, not, ◌||◌, ℕ, zero, suc, ◌+◌, ◌*◌, ◌≤◌, ◌<◌, eqb, length}
 use Rattle.std.proofs.Common.{sym, add-one, arith, ◌∙◌}
 use Rattle.std.specs.List.{fold}
 use Rattle.std.specs.Option.{is_some}
-use borrow.Author.Tests.{not-true}
+use borrow.Author.Tests.{not-true, ne_eqb}
 use Rattle.costs.specs.Laws.{or_left}
 use Rattle.star_swap.specs.Tests.{or_right}
 use Rattle.star_swap.specs.Star.{at, Pick, nothing, arc, pick, trail, trail_step, trail_loop, circuits, star_swaps, codes}
-use Rattle.star_swap.specs.Chain.{slot, Chained, Taking, took_none}
+use Rattle.star_swap.specs.Chain.{slot_of, is_none, slot, Chained, Taking, took_none}
 use Rattle.star_swap.specs.StarCode.{Pair}
-use Rattle.star_swap.specs.StarLoop.{StarInv, star_end}
+use Rattle.star_swap.specs.StarLoop.{StarInv, star_end, Writing}
 use Rattle.star_swap.specs.declared.Arcs.{Arcs}
 
 -- no key has an arc
@@ -20,13 +20,21 @@ none_is : (o : Option ℕ) → false ≡ is_some o → o ≡ None
 none_is None f = refl
 none_is (Some x) f = cc
 
-none_of : (l : List (Option ℕ)) (any : Bool) → fold (λ a s. a || is_some s) any l ≡ false → (any ≡ false) × ((k : ℕ) → slot l k ≡ None)
-none_of [] any e = (e, λ k. refl)
-none_of (s ∷ l) any e =
-    let r = none_of l (any || is_some s) e in
-    (or_left any (is_some s) r.0, λ k. elim k as (λ k. slot (s ∷ l) k ≡ None) [ zero ↦ none_is s (sym (or_right any (is_some s) r.0)) | suc k ↦ r.1 k ])
+-- a byte that is not 0 is a slot
+pub has_slot : (i : ℕ) → not (eqb i 0) ≡ is_some (slot_of i)
+unfolding slot_of
+has_slot zero = refl
+has_slot (suc i) = rw (ne_eqb (suc i) 0 (λ e. omega (arith, e)))
 
-pub ended_of : (arcs : Arcs) (any : Bool) → any ≡ fold (λ a s. a || is_some s) false arcs.head → not any ≡ true → Ended arcs
+none_of : (l : List ℕ) (any : Bool) → fold (λ a s. a || not (eqb s 0)) any l ≡ false → (any ≡ false) × ((k : ℕ) → slot l k ≡ None)
+none_of [] any e = (e, λ k. is_none)
+none_of (s ∷ l) any e =
+    let r = none_of l (any || not (eqb s 0)) e in (
+      or_left any (not (eqb s 0)) r.0,
+      λ k. elim k as (λ k. slot (s ∷ l) k ≡ None) [ zero ↦ none_is (slot_of s) (sym (or_right any (not (eqb s 0)) r.0) ∙ has_slot s) | suc k ↦ r.1 k ],
+    )
+
+pub ended_of : (arcs : Arcs) (any : Bool) → any ≡ fold (λ a s. a || not (eqb s 0)) false arcs.head → not any ≡ true → Ended arcs
 ended_of arcs any e h = record { each = λ k l. (none_of arcs.head false (sym e ∙ not-true any h)).1 k }
 
 -- a trail from a key without an arc
@@ -70,3 +78,8 @@ module _ (cur goal pre : List ℕ) (arcs : Arcs) (swaps : List ℕ) where
       go : (key : ℕ) → key ≤ 64 → StarInv cur goal pre arcs swaps key
       go zero low = inv
       go (suc key) low = rw (← add-one key) (skipped key (go key (omega arith)) (omega arith) (rw (e.each key (omega arith))))
+
+-- the same over the places of the list that is written
+module _ (cur goal steps : List ℕ) (start : ℕ) (arcs : Arcs) (steps' : List ℕ) (r key : ℕ) (v : Writing cur goal steps start arcs steps' r key) where
+  pub write_skipped : key < 64 → false ≡ is_some (slot arcs.head key) → Writing cur goal steps start arcs steps' r (key + 1)
+  write_skipped low f = record { swaps = v.swaps; inv = skipped cur goal [] arcs v.swaps key v.inv low f; wrote = v.wrote }

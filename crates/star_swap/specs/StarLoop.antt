@@ -1,7 +1,7 @@
 -- The invariant of star-swap's loop over the keys, and its steps.
-use Rattle.std.specs.Prelude.{◌≡◌, refl, Bool, true, false, Some, None, eqb, length, take, drop}
+use Rattle.std.specs.Prelude.{◌≡◌, refl, Bool, true, false, Some, None, eqb, length, set, take, drop}
 use Rattle.std.specs.List.{slice_get}
-use Rattle.std.proofs.Common.{sym, ap, subst, ◌∙◌, add-one, length-append, length-take-le, take_at, drop_at, drop-drop}
+use Rattle.std.proofs.Common.{sym, ap, subst, ◌∙◌, add-one, length-append}
 use mathlib.Core.List.{List, [], ◌∷◌, ◌++◌, append_assoc, append-nil, map-append}
 use Prim.Native.Nat.{ℕ, zero, suc, ◌+◌, ◌-◌, ◌≤◌, ◌<◌}
 use native.Mathlib.Omega.{arith}
@@ -17,7 +17,7 @@ use Rattle.star_swap.specs.Thirty.{star_thirds}
 use Rattle.star_swap.specs.Chain.{Chained, Ready, Given}
 use Rattle.star_swap.specs.TrailCode.{empty_is}
 use Rattle.star_swap.specs.Link.{from}
-use Rattle.star_swap.specs.StarCode.{Pair, LinkedAt}
+use Rattle.star_swap.specs.StarCode.{Pair, LinkedAt, Wrote, wrote_more, wrote_one}
 use Rattle.star_swap.specs.declared.Arcs.{Arcs}
 
 misplaced_length : (p : ℕ) (cur goal : List ℕ) → length (misplaced p cur goal) ≤ length cur
@@ -232,23 +232,42 @@ pub record Appended (cur goal steps : List ℕ) (start : ℕ) (steps' : List ℕ
   pub text : take r steps' ≡ take start steps ++ codes (star_swaps cur goal)
   pub rest : drop r steps' ≡ drop r steps
 
--- the swaps of a list of their own, over the places from the start on
-module _ (cur goal steps swaps : List ℕ) (start : ℕ) (p : Pair cur goal) (fit : start + 30 ≤ length steps) (e : swaps ≡ codes (star_swaps cur goal)) where
-  swaps_number : length swaps ≡ length (star_swaps cur goal)
-  swaps_number = ap length e ∙ length-map (star_swaps cur goal) code
+-- the swaps so far over the places from the start on, and the circuits of the keys to come
+pub record Writing (cur goal steps : List ℕ) (start : ℕ) (arcs : Arcs) (steps' : List ℕ) (r key : ℕ) : Type 0 where
+  pub swaps : List ℕ
+  pub inv : StarInv cur goal [] arcs swaps key
+  pub wrote : Wrote steps start swaps steps' r
 
-  pub swaps_fit : start + length swaps ≤ length steps
-  swaps_fit = omega (arith, swaps_number, star_few cur goal p, fit)
-
-  pub appended : (r m : ℕ) → r ≡ start + length swaps → m ≡ r - start → Appended cur goal steps start (take start steps ++ (swaps ++ drop m (drop start steps))) r
-  appended r m h g =
-      let k : length (take start steps ++ swaps) ≡ r = omega (arith, h, length-append (take start steps) swaps, length-take-le start steps (omega (arith, fit))) in
-      let t : take start steps ++ (swaps ++ drop m (drop start steps)) ≡ (take start steps ++ swaps) ++ drop r steps =
-      ap (λ (l : List ℕ). take start steps ++ (swaps ++ l)) (drop-drop m start steps ∙ ap (λ (n : ℕ). drop n steps) (omega (arith, h, g)))
-      ∙ sym (append_assoc (take start steps) swaps (drop r steps)) in
+module _ (cur goal : List ℕ) (p : Pair cur goal) (steps : List ℕ) (start : ℕ) (fit : start + 30 ≤ length steps) where
+  -- all is written
+  pub whole : (swaps steps' : List ℕ) (r : ℕ) → Wrote steps start swaps steps' r → swaps ≡ codes (star_swaps cur goal) → Appended cur goal steps start steps' r
+  whole swaps steps' r w e =
+      let n : length swaps ≡ length (star_swaps cur goal) = ap length e ∙ length-map (star_swaps cur goal) code in
       record {
-        few = omega (arith, h, swaps_number, star_few cur goal p);
-        number = omega (arith, h, swaps_number);
-        text = ap (take r) t ∙ take_at (take start steps ++ swaps) (drop r steps) r k ∙ ap (λ (l : List ℕ). take start steps ++ l) e;
-        rest = ap (drop r) t ∙ drop_at (take start steps ++ swaps) (drop r steps) r k;
+        few = omega (arith, w.number, n, star_few cur goal p);
+        number = omega (arith, w.number, n);
+        text = w.text ∙ ap (λ (l : List ℕ). take start steps ++ l) e;
+        rest = w.rest;
       }
+
+  pub whole_end : (arcs : Arcs) (steps' : List ℕ) (r key : ℕ) → Writing cur goal steps start arcs steps' r key → 64 ≤ key → Appended cur goal steps start steps' r
+  whole_end arcs steps' r key v h = whole v.swaps steps' r v.wrote (star_end cur goal [] p arcs v.swaps key v.inv h)
+
+  module _ (arcs : Arcs) (steps' : List ℕ) (r key : ℕ) (v : Writing cur goal steps start arcs steps' r key) (low : key < 64) (arcs' : Arcs) (out : List ℕ) (gave : Given cur key arcs arcs' out) where
+    -- the key has no circuit
+    pub write_none : slice_get out (length out - 1) ≡ None → Writing cur goal steps start arcs' steps' r (key + 1)
+    write_none e = record { swaps = v.swaps; inv = none_out cur goal [] p arcs v.swaps key v.inv low arcs' out gave e; wrote = v.wrote }
+
+    -- it has one, entered by x, and there is room for it
+    module _ (x : ℕ) (e : slice_get out (length out - 1) ≡ Some x) where
+      pub write_room : r + 1 + length out ≤ length steps'
+      write_room = omega (arith, fit, v.wrote.number, v.wrote.len, room cur goal [] p arcs v.swaps key v.inv low arcs' out gave x e)
+
+      pub write_one : (steps'' : List ℕ) (t : ℕ) → Wrote (set steps' r (code x)) (r + 1) (codes out) steps'' t → Writing cur goal steps start arcs' steps'' t (key + 1)
+      write_one steps'' t w =
+          let enter = wrote_more steps start v.swaps steps' r (code x ∷ []) _ (r + 1) v.wrote (wrote_one steps' r (code x) (omega (arith, write_room))) in
+          record {
+            swaps = (v.swaps ++ code x ∷ []) ++ codes out;
+            inv = one_out cur goal [] p arcs v.swaps key v.inv low arcs' out gave x e;
+            wrote = wrote_more steps start (v.swaps ++ code x ∷ []) _ (r + 1) (codes out) steps'' t enter w;
+          }

@@ -1,9 +1,9 @@
 -- The invariant of the trail's loop, over the table of arcs, the stack and the output, and its steps.
-use Rattle.std.specs.Prelude.{◌≡◌, refl, Option, Some, None, List, [], ◌∷◌, ◌++◌, reverse, ℕ, zero, suc, ◌+◌, ◌-◌, ◌*◌, ◌≤◌, ◌<◌, length}
-use Rattle.std.proofs.Common.{sym, ap, subst, ◌∙◌, arith, length-append}
+use Rattle.std.specs.Prelude.{◌≡◌, refl, Option, Some, None, List, [], ◌∷◌, ◌++◌, reverse, ℕ, zero, suc, ◌+◌, ◌-◌, ◌*◌, ◌≤◌, ◌<◌, length, set, drop}
+use Rattle.std.proofs.Common.{sym, ap, subst, ◌∙◌, arith, length-append, length-drop, length-set, get_or-set_same}
 use Rattle.std.proofs.Math.Decide.{dec_lt}
-use Rattle.std.proofs.Math.Seq.{get_or-append_seam}
-use Rattle.std.proofs.lemmas.List.{reverse-append, length-reverse, get_or-reverse, get_or_append_left}
+use Rattle.std.proofs.Math.Seq.{drop-cons, get_or-append_seam}
+use Rattle.std.proofs.lemmas.List.{reverse-append, length-reverse, get_or-reverse, get_or_append_left, drop-set-lt}
 use Rattle.std.proofs.lemmas.Option.{slice_get_within, get_or_from_slice_get}
 use Rattle.std.specs.List.{slice_get}
 use native.Mathlib.Numerals.{unary_clauses}
@@ -24,6 +24,13 @@ pub empty_is : (l : List ℕ) → slice_get l (length l - 1) ≡ None → l ≡ 
 empty_is [] e = refl
 empty_is (y ∷ l) e = absurd (last_some l y (simp unary_clauses at e))
 
+-- a store in front of the places that are filled
+pub store_front : (l : List ℕ) (n i : ℕ) → 0 < n → n ≤ length l → drop (n - 1) (set l (n - 1) i) ≡ i ∷ drop n l
+store_front l zero i h fit = absurd (omega arith)
+store_front l (suc n) i h fit =
+    let e : suc n - 1 ≡ n = omega arith in
+    rw e (drop-cons (set l n i) n 0 (omega (arith, length-set l n i)) ∙ rw (get_or-set_same l n i 0 (omega arith), drop-set-lt (suc n) l n i (omega arith)))
+
 -- the key of the stack's top
 key_top : (c : ℕ → ℕ) (start : ℕ) (l : List ℕ) (x : ℕ) → slice_get l (length l - 1) ≡ Some x → key_of c start (reverse l) ≡ c x
 key_top c start l x s =
@@ -42,7 +49,7 @@ module _ (cur : List ℕ) (start : ℕ) where
     pub held : Chained (length cur) g rest arcs
     pub enough : 2 * length rest + length stack < fuel
     pub sum : length stack + length out + length rest ≡ length R₀
-    pub goes : trail_loop g (at cur) start fuel (reverse stack) (reverse out) rest ≡ trail g (at cur) start R₀
+    pub goes : trail_loop g (at cur) start fuel (reverse stack) out rest ≡ trail g (at cur) start R₀
     pub at_key : key ≡ key_of (at cur) start (reverse stack)
 
   pub record TrailInv (arcs₀ arcs : Arcs) (out stack : List ℕ) (key : ℕ) : Type 0 where
@@ -82,11 +89,11 @@ module _ (cur : List ℕ) (start : ℕ) where
       fuel : 2 * length rest + length stack ≤ m
       took : Taking (length cur) g p r rest arcs'
       picks : Picked g key rest p
-      goes : trail_step (reverse stack) (reverse out) rest p (trail_loop g (at cur) start m) ≡ trail g (at cur) start R₀
+      goes : trail_step (reverse stack) out rest p (trail_loop g (at cur) start m) ≡ trail g (at cur) start R₀
 
     turn : (r : Option ℕ) → Took key arcs r arcs' → (g : ℕ → ℕ) (R₀ : List ℕ) → State g R₀ arcs out stack key → (rest : List ℕ) × (m : ℕ) × Turn g R₀ r rest m (pick g key rest)
     turn r t g R₀ s =
-        let o = opened g s.fuel (2 * length s.rest + length stack) (reverse stack) (reverse out) s.rest (trail g (at cur) start R₀) s.enough s.goes in (
+        let o = opened g s.fuel (2 * length s.rest + length stack) (reverse stack) out s.rest (trail g (at cur) start R₀) s.enough s.goes in (
           s.rest,
           o.0,
           record {
@@ -101,32 +108,32 @@ module _ (cur : List ℕ) (start : ℕ) where
     -- no slot left for the key
     module _ (t : Took key arcs None arcs') where
       -- and the stack is empty: the trail ends
-      pub leave : stack ≡ [] → Gave cur start arcs₀ arcs' (reverse out)
+      pub leave : stack ≡ [] → Gave cur start arcs₀ arcs' out
       leave e g R h few =
           let s = turn None t g R (inv.states g R h few) in
           go s.0 s.1 (pick g key s.0) s.2
         where
           go : (rest : List ℕ) (m : ℕ) (p : Pick) → Turn g R None rest m p →
-              (reverse out ≡ (trail g (at cur) start R).out) × Chained (length cur) g (trail g (at cur) start R).left arcs'
+              (out ≡ (trail g (at cur) start R).out) × Chained (length cur) g (trail g (at cur) start R).left arcs'
           go rest m nothing t =
-              let q : ◌≡◌ {A = Trail} (record { out = reverse out; left = rest }) (trail g (at cur) start R) = rw e at t.goes in
+              let q : ◌≡◌ {A = Trail} (record { out = out; left = rest }) (trail g (at cur) start R) = rw e at t.goes in
               (ap (λ (r : Trail). r.out) q, subst (λ (r : Trail). Chained (length cur) g r.left arcs') q t.took.1)
           go rest m (arc i R') t = let z : None ≡ Some i = t.took.0 in absurd cc
 
       -- else the stack's top goes out
-      pop : (below : List ℕ) (i key' : ℕ) → stack ≡ below ++ i ∷ [] → key' < 64 → key' ≡ key_of (at cur) start (reverse below) → TrailInv arcs₀ arcs' (out ++ i ∷ []) below key'
+      pop : (below : List ℕ) (i key' : ℕ) → stack ≡ below ++ i ∷ [] → key' < 64 → key' ≡ key_of (at cur) start (reverse below) → TrailInv arcs₀ arcs' (i ∷ out) below key'
       pop below i key' e low is_key =
           record {
-            room = omega (arith, inv.room, ap length e, length-append below (i ∷ []), length-append out (i ∷ []));
+            room = omega (arith, inv.room, ap length e, length-append below (i ∷ []));
             key_low = low;
             slots_low = λ j h. subst (λ (n : ℕ). n < length cur) (ap (λ (l : List ℕ). at l j) e ∙ get_or_append_left below (i ∷ []) 0 j h) (inv.slots_low j (omega (arith, ap length e, length-append below (i ∷ []))));
             states = λ g R h few. popped g R (inv.states g R h few);
           }
         where
-          popped : (g : ℕ → ℕ) (R : List ℕ) → State g R arcs out stack key → State g R arcs' (out ++ i ∷ []) below key'
+          popped : (g : ℕ → ℕ) (R : List ℕ) → State g R arcs out stack key → State g R arcs' (i ∷ out) below key'
           popped g R st = let q = turn None t g R st in go q.0 q.1 (pick g key q.0) q.2
             where
-              go : (rest : List ℕ) (m : ℕ) (p : Pick) → Turn g R None rest m p → State g R arcs' (out ++ i ∷ []) below key'
+              go : (rest : List ℕ) (m : ℕ) (p : Pick) → Turn g R None rest m p → State g R arcs' (i ∷ out) below key'
               go rest m nothing t =
                   let s : reverse stack ≡ i ∷ reverse below = ap reverse e ∙ reverse_push below i in
                   record {
@@ -134,8 +141,8 @@ module _ (cur : List ℕ) (start : ℕ) where
                     fuel = m;
                     held = t.took.1;
                     enough = omega (arith, t.fuel, ap length e, length-append below (i ∷ []));
-                    sum = omega (arith, t.sum, ap length e, length-append below (i ∷ []), length-append out (i ∷ []));
-                    goes = rw (reverse_push out i) (rw s at t.goes);
+                    sum = omega (arith, t.sum, ap length e, length-append below (i ∷ []));
+                    goes = rw s at t.goes;
                     at_key = is_key;
                   }
               go rest m (arc i R') t = let z : None ≡ Some i = t.took.0 in absurd cc
@@ -148,11 +155,15 @@ module _ (cur : List ℕ) (start : ℕ) where
           let v : at stack (length below - 1) ≡ x = ap (λ (w : List ℕ). at w (length below - 1)) e ∙ get_or_append_left below (i ∷ []) 0 (length below - 1) l ∙ get_or_from_slice_get below (length below - 1) x 0 s in
           subst (λ (n : ℕ). n < length cur) v (inv.slots_low (length below - 1) (omega (arith, ap length e, length-append below (i ∷ []))))
 
+      -- there is a place for the stack's top
+      pub place_left : (slots : List ℕ) (n : ℕ) → length slots ≡ 20 → out ≡ drop n slots → 0 < n
+      place_left slots n l f = omega (arith, l, inv.room, ap length e, length-append below (i ∷ []), ap length f, length-drop n slots)
+
       module _ (t : Took key arcs None arcs') (a : Ready cur start arcs₀) where
-        pub pop_on : (x : ℕ) → slice_get below (length below - 1) ≡ Some x → TrailInv arcs₀ arcs' (out ++ i ∷ []) below (at cur x)
+        pub pop_on : (x : ℕ) → slice_get below (length below - 1) ≡ Some x → TrailInv arcs₀ arcs' (i ∷ out) below (at cur x)
         pop_on x s = pop t below i (at cur x) e (a.keys x (below_low x s)) (sym (key_top (at cur) start below x s))
 
-        pub pop_last : slice_get below (length below - 1) ≡ None → TrailInv arcs₀ arcs' (out ++ i ∷ []) below start
+        pub pop_last : slice_get below (length below - 1) ≡ None → TrailInv arcs₀ arcs' (i ∷ out) below start
         pop_last s = pop t below i start e a.start_key (ap (λ (l : List ℕ). key_of (at cur) start (reverse l)) (sym (empty_is below s)))
 
     -- a slot for the key: it goes onto the stack

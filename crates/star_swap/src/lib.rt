@@ -6,7 +6,7 @@ ghost use Rattle.costs.specs.Refusal.{refusal_of};
 ghost use Rattle.std.specs.Option.{is_some};
 ghost use Rattle.star_swap.specs.Chain.{slot, no_arcs, Held, Took, Ready, Given};
 ghost use Rattle.star_swap.specs.Ended.{Ended};
-ghost use Rattle.star_swap.specs.StarCode.{Pair, LinkedAt};
+ghost use Rattle.star_swap.specs.StarCode.{Pair, LinkedAt, Wrote};
 ghost use Rattle.star_swap.specs.StarLoop.{Appended};
 ghost use Rattle.star_swap.specs.Star.{star_swaps, code, codes};
 ghost use Rattle.star_swap.specs.Refusal.{same_counts, are_keys_same, unroutable, builder_refusal, swap_refusal, written_of, star_swapped};
@@ -15,11 +15,12 @@ ghost use Rattle.star_swap.specs.Check.{Counts};
 use arrayvec::ArrayVec;
 use costs::{Refusal, Step};
 
-// The misplaced slots by the key that each needs, rising: the first of each key, and behind each slot the next of its key.
+// The misplaced slots by the key that each needs, rising: the first of each key, and behind each slot the next of its key; 0 for none, since slots
+// begin at 1. Bytes: an Option takes two, and the test whether any is left is then no vector.
 #[derive(Drop)]
 struct Arcs {
-    head: [Option<u8>; 64],
-    next: [Option<u8>; 21],
+    head: [u8; 64],
+    next: [u8; 21],
 }
 
 impl Arcs {
@@ -33,7 +34,7 @@ impl Arcs {
             let need = goal[slot] as usize;
             if cur[slot] != goal[slot] {
                 self.next[slot] = self.head[need];
-                self.head[need] = Some(slot as u8);
+                self.head[need] = slot as u8;
             }
         }
     }
@@ -44,18 +45,24 @@ impl Arcs {
         requires { Held self.old × (key < 64) }
         ensures { Took key self.old result self.new }
     {
-        let slot = self.head[key as usize]?;
+        let slot = self.head[key as usize];
+        if slot == 0 {
+            return None;
+        }
         self.head[key as usize] = self.next[slot as usize];
         Some(slot)
     }
 
-    // The trail from a key: its slots leave the lists. A loop that follows the stack and counts no index.
-    fn trail(&mut self, cur: &[u8], start: u8) -> ArrayVec<u8, 20>
+    // The trail from a key: its slots leave the lists and stand, in the order of the swaps, over the last places of `slots`; the first of these places.
+    // Lent and filled from the end: a list that is turned and handed back is copied while its bytes are on their way to memory.
+    // A loop that follows the stack and counts no index but that place.
+    fn trail(&mut self, cur: &[u8], start: u8, slots: &mut [u8; 20]) -> usize
         requires { Ready cur.now start self.old }
-        ensures { Given cur.now start self.old self.new result.items }
+        ensures given { Given cur.now start self.old self.new (drop result slots.new) }
+        ensures in_bounds { result ≤ 20 }
     {
         let mut stack: ArrayVec<u8, 20> = ArrayVec::new();
-        let mut out: ArrayVec<u8, 20> = ArrayVec::new();
+        let mut first = 20;
         let mut key = start;
         loop {
             if let Some(slot) = self.take(key) {
@@ -63,10 +70,10 @@ impl Arcs {
                 key = cur[slot as usize];
             } else {
                 let Some(slot) = stack.pop() else {
-                    out.reverse();
-                    return out;
+                    return first;
                 };
-                out.push(slot);
+                first -= 1;
+                slots[first] = slot;
                 key = match stack.last() {
                     Some(&below) => cur[below as usize],
                     None => start,
@@ -79,10 +86,7 @@ impl Arcs {
     fn is_empty(&self) -> bool
         ensures { result ≡ true → Ended self.now }
     {
-        !self
-            .head
-            .iter()
-            .fold(false, |any, slot| any | slot.is_some())
+        !self.head.iter().fold(false, |any, &slot| any | (slot != 0))
     }
 
     // Whether a slot needs the key, below 64 as in `take`.
@@ -90,7 +94,7 @@ impl Arcs {
         requires { key < 64 }
         ensures { result ≡ is_some (slot self.now.head key) }
     {
-        self.head[key as usize].is_some()
+        self.head[key as usize] != 0
     }
 }
 
@@ -101,44 +105,18 @@ fn swap_code(d: u8) -> u16
     u16::from(Step::Swap(d))
 }
 
-// The slots as swaps, behind those so far.
-fn append(slots: &[u8], steps: &mut ArrayVec<u16, 128>)
-    requires { length steps.old.items + length slots.now ≤ 128 }
-    ensures { steps.new.items ≡ steps.old.items ++ codes slots.now }
+// The slots as swaps over the places of `steps` from `start` on: the place behind the last. `end` is the place of the next one, since the list is
+// the caller's: an `ArrayVec` of swaps had to be copied there.
+fn write(slots: &[u8], start: usize, steps: &mut [u16]) -> usize
+    requires { start + length slots.now ≤ length steps.old }
+    ensures { Wrote steps.old start (codes slots.now) steps.new result }
 {
+    let mut end = start;
     for &slot in slots {
-        steps.push(swap_code(slot));
+        steps[end] = swap_code(slot);
+        end += 1;
     }
-}
-
-// The swaps that turn `cur` into `goal`, behind the steps so far.
-pub fn route(cur: &[u8], goal: &[u8], steps: &mut ArrayVec<u16, 128>)
-    requires pair { Pair cur.now goal.now }
-    requires room { length steps.old.items ≤ 98 }
-    ensures { steps.new.items ≡ steps.old.items ++ codes (star_swaps cur.now goal.now) }
-{
-    let Some(&top) = cur.first() else {
-        return;
-    };
-    let mut arcs = Arcs {
-        head: [None; 64],
-        next: [None; 21],
-    };
-    arcs.link(cur, goal);
-    let first = arcs.trail(cur, top);
-    append(&first, steps);
-    if arcs.is_empty() {
-        return;
-    }
-    for key in 0..64 {
-        if arcs.has(key) {
-            let circuit = arcs.trail(cur, key);
-            if let Some(&enter) = circuit.last() {
-                steps.push(swap_code(enter));
-                append(&circuit, steps);
-            }
-        }
-    }
+    end
 }
 
 // The swaps that turn `cur` into `goal`, from the place `start` of `steps` on, in any list: the place behind the last.
@@ -147,11 +125,45 @@ pub fn star(cur: &[u8], goal: &[u8], start: usize, steps: &mut [u16]) -> usize
     requires start_in_bounds { start + 30 ≤ length steps.old }
     ensures { Appended cur.now goal.now steps.old start steps.new result }
 {
-    let mut swaps: ArrayVec<u16, 128> = ArrayVec::new();
-    route(cur, goal, &mut swaps);
-    let end = start + swaps.len();
-    steps[start..end].copy_from_slice(&swaps);
+    let Some(&top) = cur.first() else {
+        return start;
+    };
+    let mut arcs = Arcs {
+        head: [0; 64],
+        next: [0; 21],
+    };
+    arcs.link(cur, goal);
+    let mut slots = [0; 20];
+    let first = arcs.trail(cur, top, &mut slots);
+    let mut end = write(&slots[first..], start, steps);
+    if arcs.is_empty() {
+        return end;
+    }
+    for key in 0..64 {
+        if arcs.has(key) {
+            let first = arcs.trail(cur, key, &mut slots);
+            let circuit = &slots[first..];
+            if let Some(&enter) = circuit.last() {
+                steps[end] = swap_code(enter);
+                end = write(circuit, end + 1, steps);
+            }
+        }
+    }
     end
+}
+
+// The swaps that turn `cur` into `goal`, behind the steps so far: places are made for them, since `star` writes into any list, and the rest go.
+pub fn route(cur: &[u8], goal: &[u8], steps: &mut ArrayVec<u16, 128>)
+    requires pair { Pair cur.now goal.now }
+    requires room { length steps.old.items ≤ 98 }
+    ensures { steps.new.items ≡ steps.old.items ++ codes (star_swaps cur.now goal.now) }
+{
+    let start = steps.len();
+    let Ok(()) = steps.try_extend_from_slice(&[0; 30]) else {
+        return;
+    };
+    let end = star(cur, goal, start, steps);
+    steps.truncate(end);
 }
 
 // How often each key below 64 stands in the list, into a table of zeros: the caller's, since a table that is handed back is copied while its bytes
@@ -165,6 +177,16 @@ pub fn count_into(w: &[u8], a: &mut [u8; 64])
             a[key as usize] += 1;
         }
     }
+}
+
+// The table of `count_into`, handed back.
+pub fn counts(w: &[u8]) -> [u8; 64]
+    requires { length w.now ≤ 255 }
+    ensures { Counts w.now result }
+{
+    let mut a = [0; 64];
+    count_into(w, &mut a);
+    a
 }
 
 // Whether two windows hold each key equally often.
@@ -220,6 +242,22 @@ pub fn check_shared(
         return Err(Refusal::ShortList);
     }
     Ok(())
+}
+
+// The number of `check_shared`'s refusal, or that of the rows of higher numbers.
+pub fn builder_refusal(
+    start: &[u8],
+    goal: &[u8],
+    swap_max: usize,
+    places: usize,
+    higher: u32,
+) -> u32
+    ensures { result ≡ builder_refusal swap_max start.now goal.now places higher }
+{
+    match check_shared(start, goal, swap_max, places) {
+        Ok(()) => higher,
+        Err(refusal) => refusal.number(),
+    }
 }
 
 // The refusals, the lowest number first. Row 9 counts keys in bytes, so the lengths are looked at before it.

@@ -2,7 +2,6 @@
 use Rattle.std.proofs.Common.{sym, ap, ap₂, arith, rules, ◌∙◌}
 use Rattle.std.specs.Prelude.{◌≡◌, ◌≤◌, ℕ, List, ◌++◌, Err, length, take, drop}
 use Rattle.std.proofs.Math.Seq.{take-append_seam}
-use Rattle.std.specs.List.{refill}
 use Rattle.std.proofs.lemmas.Grind.{common_steps}
 use Rattle.costs.specs.declared.Cost.{Cost}
 use Rattle.costs.specs.declared.Refusal.{Refusal}
@@ -84,10 +83,6 @@ module _ (q : Rules) (prices start goal steps : List ℕ) (most : Cost) where
           let t : take r.length written ≡ a.window = ap₂ take a.counted a.held ∙ take-append_seam a.window a.rest in
           rw (outcome_runs q prices start goal steps (sym e) ∙ a.ends_at, f ∙ a.highest_is, g ∙ ap (mark_of goal (no_more (cost_for_steps prices steps) most)) t)
 
--- a list that is written back whole
-kept : (n : ℕ) (xs ws : List ℕ) → n ≡ length ws → refill n xs ws ≡ ws
-kept n xs ws e = rw e (take-append_seam ws (drop (length ws) xs))
-
 pub returns-in_err-check : goal.returns-in_err-check
 returns-in_err-check c =
     let k : c.from_residual.result ≡ Err c.in_err-check.field-0.0 = grind (arith, common_steps) in
@@ -102,7 +97,7 @@ pub carry_out-requires : goal.carry_out-requires
 carry_out-requires c =
     let e = c.in_ok-check.ensures.refusal in
     let a = rests _ _ _ _ _ c.args.most e in
-    (a.keys, fits _ _ _ _ _ c.args.most e, omega (arith, ap length c.deref_mut.ensures.value, c.from-end.ensures.1))
+    (a.keys, fits _ _ _ _ _ c.args.most e, omega arith)
 
 pub returns-in_err-ended : goal.returns-in_err-ended
 returns-in_err-ended c =
@@ -119,6 +114,6 @@ returns c =
     let m : ended c.in_ok-ended.ended ≡ stepped c.carry_out.result = sym (ap replayed_of c.in_ok-ended.was) ∙ mapped _ _ c.map_err.ensures.cases in
     let z : (stepped c.carry_out.result).refusal ≡ 0 = ap (λ (r : Replayed). r.refusal) (sym m) in
     let l : c.in_ok-ended.ended.length ≡ (stepped c.carry_out.result).length = ap (λ (r : Replayed). r.length) m in
-    let s : c.eq-reached.result ≡ are_keys_same (take c.in_ok-ended.ended.length c.carry_out.new.res) c.args.goal.now = c.eq-reached.ensures ∙ rw (c.as_slice.ensures.value, c.truncate.ensures.items, kept _ _ _ (sym (c.carry_out.auto.res ∙ ap length c.deref_mut.ensures.value))) (search rules) in
+    let s : c.eq-reached.result ≡ are_keys_same (take c.in_ok-ended.ended.length c.carry_out.new.res) c.args.goal.now = c.eq-reached.ensures ∙ search rules in
     finished _ _ _ _ _ _ e _ c.narrowed.ensures _ _ _ c.carry_out.ensures _ _ z (ap (λ (r : Replayed). r.highest) m)
     (c.grade.ensures ∙ rw (s, c.no_more-within.ensures, c.cost_for_steps.ensures, l))

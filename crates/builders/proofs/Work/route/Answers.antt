@@ -8,4 +8,4 @@ use Rattle.builders.proofs.Work.route.Goals as goal
 pub returns : goal.returns
 unfolding routed
 returns c =
-    c.route.ensures ∙ rw (c.deref.ensures.0, c.keys-keys.ensures.value) (ap (λ (p : Draft). p.steps ++ codes (star_swaps c.args.self.now.window c.args.goal.now)) c.self.view_is)
+    c.route.ensures ∙ rw c.write-n.ensures.keys (ap (λ (p : Draft). p.steps ++ codes (star_swaps c.args.self.now.window c.args.goal.now)) c.self.view_is)

@@ -8,7 +8,7 @@ pub loop-slot-init : goal.loop-slot-init
 loop-slot-init c = (rw c.requires.empty (linked_begin _ _), c.requires.pair.1)
 
 pub loop-slot-preserved-then-cur-slot : goal.loop-slot-preserved-then-cur-slot
-loop-slot-preserved-then-cur-slot c = (linked_wrong _ _ c.requires.pair.0 _ _ c.loop-slot.invariant.1 (omega arith) c.loop-slot.invariant.0 c.if-cur-slot.true, omega arith)
+loop-slot-preserved-then-cur-slot c = (linked_wrong _ _ c.requires.pair.0 _ _ c.loop-slot.invariant.1 (omega arith) c.loop-slot.invariant.0 (omega arith) c.if-cur-slot.true, omega arith)
 
 pub loop-slot-preserved : goal.loop-slot-preserved
 loop-slot-preserved c = (linked_right _ _ c.requires.pair.0 _ _ c.loop-slot.invariant.1 (omega arith) c.loop-slot.invariant.0 c.if-cur-slot.false, omega arith)
