@@ -4,11 +4,10 @@
 // 1,000 digits `0`. The program writes how many inputs were answered as expected, or the index and the name of the first that was not.
 #![tactic(auto)]
 
-ghost use Rattle.std.specs.Prelude.{◌+◌, ◌<◌, ◌≤◌, length, IfSome};
+ghost use Rattle.std.specs.Prelude.{◌≡◌, ◌+◌, ◌<◌, ◌≤◌, length, IfSome};
 
-use arrayvec::ArrayVec;
 use desk_answer::answer;
-use std::io::{self, Read, Write};
+use std::io::{self, Read};
 
 // A case of the table.
 #[derive(Clone, Copy)]
@@ -43,24 +42,38 @@ fn first_case(table: &[u8]) -> Option<(Case<'_>, &[u8])>
     ))
 }
 
-// A case's input written out, as far as there is room.
-fn written_out(input: &[u8]) -> ArrayVec<u8, 65536> {
-    let mut text = ArrayVec::new();
-    for &b in input {
-        let _ = match b {
-            b'*' => text.write(&[b'0'; 1000]),
-            _ => text.write(&[b]),
-        };
+// Bytes at the front of the room, as far as there is room; how many.
+fn put(bytes: &[u8], room: &mut [u8]) -> usize
+    ensures { (result ≤ length room.old) × (length room.new ≡ length room.old) }
+{
+    let n = bytes.len().min(room.len());
+    room[..n].copy_from_slice(&bytes[..n]);
+    n
+}
+
+// A case's input written out, as far as there is room; how many bytes.
+// Into a list of the caller's: one handed back by value would be copied for each case.
+fn write_out(input: &[u8], text: &mut [u8]) -> usize
+    ensures { result ≤ length text.new }
+{
+    let mut done = 0;
+    for (i, run) in input.split(|&b| b == b'*').enumerate() {
+        if 0 < i {
+            done += put(&[b'0'; 1000], &mut text[done..]);
+        }
+        done += put(run, &mut text[done..]);
     }
-    text
+    done
 }
 
 impl Case<'_> {
     // Whether the desk's answer to the input is the expected text.
     fn is_right(self) -> bool {
-        let text = written_out(self.input);
+        // Both lists stand before the first call: made behind it, the second would be cleared twice.
+        let mut text = [0; 65536];
         let mut out = [0; 32768];
-        let count = answer(text.as_slice(), &mut out);
+        let n = write_out(self.input, &mut text);
+        let count = answer(&text[..n], &mut out);
         &out[..count] == self.expected
     }
 }
@@ -85,9 +98,24 @@ fn run(rt: &impl Print, table: &[u8]) -> io::Result<()> {
     println!(rt; "{count} desk inputs as expected")
 }
 
+// Reads until the list is full, the input ends or a read fails, and says how many bytes stand in the list.
+// No `io::copy`: it tries again where a read is interrupted, and asks for no more than 8,192 bytes at once.
+fn read_full<R: Read>(input: &mut R, list: &mut [u8]) -> usize
+    ensures { result ≤ length list.new }
+{
+    let mut done = 0;
+    while done < list.len() {
+        let n = input.read(&mut list[done..]).unwrap_or(0);
+        if n == 0 {
+            break;
+        }
+        done += n;
+    }
+    done
+}
+
 fn main(rt: HostRuntime) -> io::Result<()> {
-    let mut table = ArrayVec::<u8, 65536>::new();
-    // A read that fails ends the table, as its end does.
-    let _ = io::copy(&mut rt.stdin().take(65536), &mut table);
-    run(&rt, table.as_slice())
+    let mut table = [0; 65536];
+    let n = read_full(&mut rt.stdin(), &mut table);
+    run(&rt, &table[..n])
 }

@@ -1,5 +1,5 @@
 // Reading a list of answers. Past its end a list reads as zeros, so that no place is out of range and a number that a record lacks is 0.
-ghost use Rattle.std.specs.Prelude.{◌≡◌, ◌+◌, ◌-◌, ◌*◌, ◌<◌, ◌≤◌, true, IfErr, IfSome, OnOk, length, take, drop, slice_index};
+ghost use Rattle.std.specs.Prelude.{◌≡◌, ◌+◌, ◌-◌, ◌*◌, ◌<◌, ◌≤◌, true, IfErr, IfSome, IfNone, OnOk, length, take, drop, slice_index};
 ghost use Rattle.vectors.specs.File.{tag_of, number_at, short_at, entries_size, place_of, field_of, has_field, passed_at, places_of, width_of, Filled, FieldKnown, AllKnown};
 
 use planner::Allowances;
@@ -272,6 +272,7 @@ pub fn kinds<'a>(bytes: &'a [u8], rec: &[u8]) -> &'a [u8]
 }
 
 // Where the records begin, if this is such a file: it begins with its name, and price lists have 196 numbers and kinds lists 64.
+// No record begins at 0, where the name stands.
 pub fn records_at(bytes: &[u8]) -> Option<usize>
     ensures { IfSome result (λ from. from ≤ length bytes.now) }
 {
@@ -279,12 +280,13 @@ pub fn records_at(bytes: &[u8]) -> Option<usize>
     let from = prices + 64 * usize::from(short(bytes, 14));
     let named = bytes.starts_with(b"NIMSKV2\n");
     let fits = short(bytes, 12) == 196 && short(bytes, 16) == 64;
-    (named && fits && from <= bytes.len()).then_some(from)
+    (named && fits && 0 < from && from <= bytes.len()).then_some(from)
 }
 
 // The bytes of an entry of the field with a tag, if the tag is known.
 fn width_of(tag: u8) -> Option<u8>
-    ensures { IfSome result (λ width. (width ≡ width_of tag) × (0 < width)) }
+    ensures known { IfSome result (λ width. (width ≡ width_of tag) × (0 < width)) }
+    ensures unknown { IfNone result (width_of tag ≡ 0) }
 {
     let widths: [u8; 14] = [1, 1, 4, 2, 2, 4, 4, 2, 4, 2, 1, 1, 4, 4];
     let i = usize::from(tag).checked_sub(1)?;

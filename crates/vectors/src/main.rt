@@ -8,12 +8,11 @@ mod rooms;
 ghost use Rattle.std.specs.Prelude.{◌≡◌, ◌+◌, ◌<◌, ◌≤◌, length};
 ghost use Rattle.vectors.specs.File.{IsPrefixLen};
 
-use arrayvec::ArrayVec;
 use compare::{same_answer, same_count, same_fields, same_keys, same_steps};
 use file::{
     Call, ENTRIES, FILE, Limits, NODES, OPEN, STEPS, Tag, count, field, limits_of, number, short,
 };
-use rooms::{NO_KEY, cut, fill, fill_work, pattern};
+use rooms::{cut, fill_result, fill_steps, fill_work, load_steps};
 use star_swap::Written;
 use std::fmt::{self, Display, Formatter};
 use std::fs::File;
@@ -28,11 +27,11 @@ struct Tally {
     wrong: usize,
 }
 
-// The record that cannot be read, and the tag of the field that keeps it from being read, if that is why.
+// The record that cannot be read, and the field that is said of it: the tag of the one that keeps it from being read, if that is why.
 #[derive(Clone, Copy)]
 struct Unreadable {
     record: usize,
-    field: Option<u8>,
+    field: Option<usize>,
 }
 
 // The kinds and prices that a record passes.
@@ -59,7 +58,7 @@ fn check_plan(
     let h = cut(count(lent, 8), heads);
     let l = cut(count(lent, 12), list);
     let steps = &mut steps[..s];
-    fill(steps, pattern);
+    fill_steps(steps);
     let r = planner::plan(
         field(rec, Tag::Start),
         field(rec, Tag::Goal),
@@ -88,8 +87,8 @@ fn same_popped(rec: &[u8], popped: &[u8]) -> bool {
 // Whether replay answers as the record says and writes the record's end window and popped keys alone.
 fn replay_as(rec: &[u8], kinds: &[u8], steps: &[u16], res: &mut [u8], popped: &mut [u8]) -> bool {
     let cfg = limits_of(field(rec, Tag::Limits)).cfg;
-    res.fill(NO_KEY);
-    popped.fill(NO_KEY);
+    fill_result(res);
+    fill_result(popped);
     let r = replay::replay(
         field(rec, Tag::Start),
         steps,
@@ -118,7 +117,7 @@ fn check_replay(rec: &[u8], kinds: &[u8], steps: &[u16]) -> bool {
 // Whether stepping back from the record's end window answers as the record says and writes the record's start alone.
 fn rewind_as(rec: &[u8], kinds: &[u8], steps: &[u16], res: &mut [u8]) -> bool {
     let cfg = limits_of(field(rec, Tag::Limits)).cfg;
-    res.fill(NO_KEY);
+    fill_result(res);
     let r = rewind::rewind(
         field(rec, Tag::Start),
         steps,
@@ -184,7 +183,7 @@ fn check_built<F: FnOnce(&[u8], &[u8], usize, &mut [u16]) -> Written>(
 {
     let n = cut(count(field(rec, Tag::Lent), 0), list);
     let steps = &mut list[..n];
-    fill(steps, pattern);
+    fill_steps(steps);
     let swap_max = count(field(rec, Tag::Limits), 4);
     let r = build(
         field(rec, Tag::Start),
@@ -202,7 +201,7 @@ fn asked(rec: &[u8], list: &mut [u16]) -> usize
 {
     let codes = field(rec, Tag::Asked);
     let n = cut(codes.len() / 2, list);
-    fill(&mut list[..n], |i| short(codes, 2 * i));
+    load_steps(codes, &mut list[..n]);
     n
 }
 
@@ -261,6 +260,12 @@ impl Tally {
             wrong: self.wrong + 1,
         }
     }
+
+    // The field that is said where bytes stand behind the last record.
+    // As it has always been said: the index of the first record that differs less 1, and none where 257 divides that index.
+    fn field_said(self) -> Option<usize> {
+        self.first.filter(|first| first % 257 != 0)?.checked_sub(1)
+    }
 }
 
 // The records from a place on, one after the other.
@@ -278,7 +283,7 @@ fn check_records(
     let mut tally = Tally::default();
     for record in 0..count(bytes, 20) {
         let Some(rec) = file::record_at(bytes, at) else {
-            let field = file::strange_at(bytes, at);
+            let field = file::strange_at(bytes, at).map(usize::from);
             return Err(Unreadable { record, field });
         };
         tally = tally.noted(check_record(bytes, rec, steps, nodes, heads, list));
@@ -287,7 +292,7 @@ fn check_records(
     if at != bytes.len() {
         return Err(Unreadable {
             record: tally.records,
-            field: None,
+            field: tally.field_said(),
         });
     }
     Ok(tally)
@@ -325,25 +330,41 @@ impl Display for Unreadable {
     fn fmt<W: fmt::Write>(&self, f: &mut Formatter<W>) -> fmt::Result {
         let record = self.record;
         match self.field {
-            Some(tag) => write!(
+            Some(field) => write!(
                 f,
-                "unreadable at record {record}: field {tag} is not known or out of order"
+                "unreadable at record {record}: field {field} is not known or out of order"
             ),
             None => write!(f, "unreadable at record {record}"),
         }
     }
 }
 
+// Reads until the list is full, the file ends or a read fails, and says how many bytes stand in the list.
+// No `io::copy`: it tries again where a read is interrupted, and asks for no more than 8,192 bytes at once.
+fn read_full(file: &mut File, list: &mut [u8]) -> usize
+    ensures { IsPrefixLen result list.new }
+{
+    let mut done = 0;
+    while done < list.len() {
+        let n = file.read(&mut list[done..]).unwrap_or(0);
+        if n == 0 {
+            break;
+        }
+        done += n;
+    }
+    done
+}
+
 fn main(rt: HostRuntime) -> io::Result<()> {
     let path = "vectors.bin";
-    let file = match File::open(&rt, path) {
+    let mut file = match File::open(&rt, path) {
         Ok(file) => file,
         Err(error) => return eprintln!(rt; "{path}: {error}"),
     };
-    let mut bytes = ArrayVec::<u8, FILE>::new();
-    // A read that fails ends the file, as its end does.
-    let _ = io::copy(&mut file.take(FILE as u64), &mut bytes);
-    match check_file(&bytes) {
+    let mut bytes = [0; FILE];
+    let n = read_full(&mut file, &mut bytes);
+    drop(file);
+    match check_file(&bytes[..n]) {
         Ok(tally) => println!(rt; "{tally}"),
         Err(unreadable) => println!(rt; "{unreadable}"),
     }

@@ -1,9 +1,9 @@
 // The lists that are lent: their room, what they hold before a call, and their lengths.
 ghost use Rattle.std.specs.Prelude.{◌≡◌, ℕ, ◌<◌, length};
-ghost use Rattle.vectors.specs.File.{pattern_at, price_at, Filled, IsPrefixLen};
+ghost use Rattle.vectors.specs.File.{code_at, pattern_at, no_key, price_at, Filled, IsPrefixLen};
 
 use crate::file;
-use crate::file::number;
+use crate::file::{number, short};
 use std::array;
 
 // What a result list holds before a call: no key is as great.
@@ -31,6 +31,25 @@ pub fn fill<T: Copy, F: Fn(usize) -> T>(list: &mut [T], given: F)
     for (i, item) in list.iter_mut().enumerate() {
         *item = given(i);
     }
+}
+
+pub fn fill_steps(steps: &mut [u16])
+    ensures { Filled (λ i step. step ≡ pattern_at i) (length steps.old) steps.new }
+{
+    fill(steps, pattern);
+}
+
+pub fn fill_result(res: &mut [u8])
+    ensures { Filled (λ i key. key ≡ no_key i) (length res.old) res.new }
+{
+    fill(res, |_| NO_KEY);
+}
+
+// The steps that a record asks.
+pub fn load_steps(codes: &[u8], steps: &mut [u16])
+    ensures { Filled (λ i step. step ≡ code_at codes.now i) (length steps.old) steps.new }
+{
+    fill(steps, |i| short(codes, 2 * i));
 }
 
 // Work lists hold anything before a call.

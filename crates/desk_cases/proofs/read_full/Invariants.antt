@@ -1,0 +1,9 @@
+-- What is read stays in the list; the measure is the room that is left.
+use Rattle.std.proofs.Common.{length, ◌-◌, ◌≤◌}
+use Rattle.desk_cases.proofs.read_full.Given as goal
+
+abbrev pub invariant-loop-done : goal.invariant-loop-done
+invariant-loop-done g l = l.done ≤ length l.list
+
+abbrev pub decreases-loop-done : goal.decreases-loop-done
+decreases-loop-done g l = length l.initial.list - l.done
