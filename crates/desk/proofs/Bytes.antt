@@ -1,18 +1,19 @@
 -- The desk's answer where the bytes of its input are known: laws of the code.
 use Rattle.std.specs.Prelude.{◌⊎◌}
-use Rattle.std.proofs.Common.{ℕ, ◌≡◌, inl, inr, ◌-◌, List, [], ◌++◌, None, Some, IfSome, true, refl, sym, ap, subst, ◌∙◌, append_assoc, append-nil, take, length, drop, take_at, take_all, take-append-drop, length-drop, arith}
+use Rattle.std.proofs.Common.{ℕ, ◌≡◌, inl, inr, ◌-◌, List, [], ◌++◌, None, Some, IfSome, Result, Ok, Err, OnErr, true, refl, sym, ap, subst, ◌∙◌, append_assoc, append-nil, take, length, drop, take_at, take_all, take-append-drop, length-drop, arith}
 use Rattle.std.specs.declared.option.Option.{Option}
 use Rattle.std.specs.Io.KnownBytes.{Appends, Consumes, IsAtEnd, Keeps}
-use Rattle.std.proofs.KnownBytes.{Consumes-nil, Consumes-trans, Appends-nil, Appends-trans, Appends-kept}
+use Rattle.std.proofs.KnownBytes.{Consumes-nil, Consumes-trans, Consumes-kept, Appends-nil, Appends-trans, Appends-kept}
 use Rattle.desk_text.specs.declared.read.Reader.{Reader}
 use Rattle.desk_text.specs.Noted.{Noted, noted}
 use Rattle.desk_text.specs.Machine.{fresh, fed_all}
 use Rattle.desk_text.specs.Meaning.{fed_append}
 use Rattle.desk_text.specs.Question.{question_of}
 use Rattle.desk_text.specs.Reader.{Heard, Settled, Fed}
+use Rattle.desk_text.specs.Pieces.{FedPieces}
 use Rattle.desk_text.specs.Text.{printed}
 use Rattle.desk_answer.specs.Desk.{desk_answer, Responded}
-use Rattle.desk.specs.Bytes.{Listened, RepliedTo}
+use Rattle.desk.specs.Bytes.{Listened, Stopped, RepliedTo}
 
 pub listened_none : (s : Noted) (input : Option (List ℕ)) → Listened s s input input
 unfolding fed_all
@@ -25,6 +26,12 @@ listened_more piece s r t a b c w f h =
       fed = f.fed ∙ ap (λ (x : Noted). fed_all x piece) w.fed ∙ sym (fed_append w.text piece s);
       taken = Consumes-trans a b c w.text piece w.taken h;
     }
+
+-- a read that failed leaves what was heard in front of it
+pub stopped_at : {T E : Type 0} (r : Result T E) (s last : Noted) (new : List ℕ) (a b c : Option (List ℕ)) → FedPieces s last → Listened s last a b → new ≡ last.list → Keeps b c → OnErr r (Stopped s new a c)
+stopped_at (Ok x) s last new a b c f w e k = tt
+stopped_at (Err x) s last new a b c f w e k =
+    record { last = last; list = e; fed = f; taken = record { text = w.text; fed = w.fed; taken = Consumes-kept a b c w.text w.taken k } }
 
 -- the text heard is longer by what was fed
 heard_on : (text more : List ℕ) (s r : Noted) → Heard text s → r ≡ fed_all s more → Heard (text ++ more) r

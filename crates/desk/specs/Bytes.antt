@@ -7,6 +7,7 @@ use Rattle.std.specs.Io.KnownBytes.{Appends, Consumes, Keeps}
 use Rattle.desk_text.specs.Noted.{Noted}
 use Rattle.desk_text.specs.Question.{question_of}
 use Rattle.desk_text.specs.Reader.{Heard}
+use Rattle.desk_text.specs.Pieces.{FedPieces}
 use Rattle.desk_text.specs.Machine.{fed_all}
 use Rattle.desk_text.specs.Text.{printed}
 use Rattle.desk_answer.specs.Desk.{desk_answer}
@@ -22,6 +23,14 @@ pub record Listened (s r : Noted) (before after : Option (List ℕ)) : Type 0 wh
   pub text : List ℕ
   pub fed : r ≡ fed_all s text
   pub taken : Consumes before after text
+
+-- behind a read that failed: the list is that of a reader that was fed with the pieces in front of the failure and with nothing else, and
+-- they are what was taken of the input
+pub record Stopped (s : Noted) (numbers : List ℕ) (before after : Option (List ℕ)) : Type 0 where
+  pub last : Noted
+  pub list : numbers ≡ last.list
+  pub fed : FedPieces s last
+  pub taken : Listened s last before after
 
 -- what is to be written is the desk's answer to the text heard before, with the whole input behind it
 abbrev pub RepliedTo : Noted → Option (List ℕ) → ℕ → List ℕ → List ℕ → Type 0

@@ -14,13 +14,13 @@
 
 ghost use Rattle.std.specs.Prelude.{◌≡◌, ◌<◌, ◌≤◌, ◌↔◌, ◌⊎◌, ℕ, true, IsTrue, IfOk, IfErr, OnOk, OnErr, [], length, take};
 ghost use Rattle.std.specs.Io.{ReadsAtMost, WritesAtMost};
-ghost use Rattle.std.specs.Io.KnownBytes.{Appends, Consumes, IsAtEnd, ReadConsumes, WriteAppends};
+ghost use Rattle.std.specs.Io.KnownBytes.{Appends, Consumes, IsAtEnd, Keeps, ReadConsumes, WriteAppends};
 ghost use Rattle.std.specs.IoError.{error_kind};
 ghost use Rattle.desk_text.specs.Noted.{noted};
 ghost use Rattle.desk_text.specs.Reader.{Fed, Settled};
 ghost use Rattle.desk_text.specs.Pieces.{FedPieces};
 ghost use Rattle.desk.specs.Listening.{Replied};
-ghost use Rattle.desk.specs.Bytes.{Passing, Listened, RepliedTo, Served};
+ghost use Rattle.desk.specs.Bytes.{Passing, Listened, Stopped, RepliedTo, Served};
 
 use desk_answer::respond;
 use desk_text::read::{Reader, number_room};
@@ -98,7 +98,7 @@ fn read_piece<R: Read>(input: &mut R, clock: &impl Clock, piece: &mut [u8]) -> i
     Err(gave_up())
 }
 
-// A piece more: what the read left in the buffer is fed, once, and given back.
+// A piece more: what the read left in the buffer is fed, once, and given back. Behind a read that failed nothing more is done.
 fn hear<'a, R: Read>(
     input: &mut R,
     clock: &impl Clock,
@@ -109,6 +109,8 @@ fn hear<'a, R: Read>(
     ensures fed { IfOk result (λ turn. Fed turn.piece.now (noted reader list.old) (noted turn.reader list.new)) }
     ensures taken { IfOk result (λ turn. Consumes (R.remaining input.old) (R.remaining input.new) turn.piece.now) }
     ensures end { IfOk result (λ turn. turn.piece.now ≡ [] → 0 < length piece.old → IsAtEnd (R.remaining input.new)) }
+    ensures kept { OnErr result (Keeps (R.remaining input.old) (R.remaining input.new)) }
+    ensures unfed { OnErr result (list.new ≡ list.old) }
 {
     let count = read_piece(input, clock, piece)?;
     let piece = &piece[..count];
@@ -126,7 +128,7 @@ fn is_whole(turn: Turn<'_>) -> bool
 
 // Reads on, piece by piece, until the input is whole. The reader was fed with the pieces and with nothing else, in their order. The turns
 // are counted up to a number that no run reaches.
-#[tactic(auto, using(desk_text::specs::Feeding::sound_is, desk_text::specs::Pieces::piece_none, desk_text::specs::Pieces::piece_more, crate::proofs::Bytes::listened_none, crate::proofs::Bytes::listened_more))]
+#[tactic(auto, using(desk_text::specs::Feeding::sound_is, desk_text::specs::Pieces::piece_none, desk_text::specs::Pieces::piece_more, crate::proofs::Bytes::listened_none, crate::proofs::Bytes::listened_more, crate::proofs::Bytes::stopped_at))]
 fn listen<R: Read>(
     input: &mut R,
     clock: &impl Clock,
@@ -137,6 +139,7 @@ fn listen<R: Read>(
     ensures fed { IfOk result (λ last. FedPieces (noted reader list.old) (noted last list.new)) }
     ensures taken { IfOk result (λ last. Listened (noted reader list.old) (noted last list.new) (R.remaining input.old) (R.remaining input.new)) }
     ensures whole { IfOk result (λ last. 0 < length piece.old → IsAtEnd (R.remaining input.new) ⊎ Settled last true) }
+    ensures stopped { OnErr result (Stopped (noted reader list.old) list.new (R.remaining input.old) (R.remaining input.new)) }
 {
     for _ in 0..u64::MAX {
         let turn = hear(input, clock, reader, piece, list)?;

@@ -85,7 +85,7 @@ pub fn respond(reader: Reader, list: &mut [usize; 192], out: &mut [u8]) -> usize
     ensures { Responded (noted reader list.old) out.old result out.new }
 {
     match reader.finish(list) {
-        Some(q) => ask(q.limits, &q.start, &q.goal, out),
+        Some(q) => ask(q.limits, q.start.as_slice(), q.goal.as_slice(), out),
         None => print(Spoken::Unreadable, &[], out),
     }
 }

@@ -1,7 +1,7 @@
 -- Laws of the reader's code.
-use Rattle.std.proofs.Common.{ℕ, ◌≡◌, ◌<◌, ◌-◌, List, [], ◌∷◌, ◌++◌, Bool, true, false, Option, Some, None, is_some, unwrap_or, cond, refl, ap, ◌∙◌, sym, arith, map, length, take, drop, eqb, eqb-true, one-add, ltb, get_or, ◌+◌, length-drop, take_all, eq-eqb, ne_eqb}
-use Rattle.std.proofs.lemmas.List.{map_more}
-use Rattle.arrayvec.specs.ArrayVec.{ArrayVec}
+use Rattle.std.proofs.Common.{ℕ, ◌≡◌, ◌<◌, ◌-◌, List, [], ◌∷◌, ◌++◌, Bool, true, false, Option, Some, None, is_some, unwrap_or, cond, refl, ap, ◌∙◌, sym, arith, map, length, take, drop, eqb, eqb-true, one-add, ltb, get_or, ◌+◌, length-drop, length-append, append_assoc, take_all, eq-eqb, ne_eqb, suc, ◌≤◌, set, replicate}
+use Rattle.std.proofs.lemmas.List.{map_more, length-map, length-take, set_at}
+use Rattle.desk_text.specs.Padded.{padded}
 use Rattle.std.specs.List.{prefix_len}
 use Rattle.costs.specs.Choice.{◌if◌otherwise◌}
 use Rattle.desk_text.specs.declared.read.Limits.{Limits}
@@ -50,6 +50,18 @@ zeros_idle s bytes n m b w e f =
       same = λ list. zeros_same (noted s list) b d v bytes ∙ rw (t, e);
     }
 
+-- one key more in front of the zeros
+padded_push : (ks : List ℕ) (i x : ℕ) → length ks ≡ i → i < 64 → set (padded ks) i x ≡ padded (ks ++ x ∷ [])
+padded_push ks i x l h =
+    let a : 64 - length ks ≡ suc (63 - i) = omega arith in
+    let b : 64 - length (ks ++ x ∷ []) ≡ 63 - i = omega (arith, length-append ks (x ∷ [])) in
+    rw (a, b) (set_at ks 0 (replicate (63 - i) 0) x i l ∙ sym (append_assoc ks (x ∷ []) (replicate (63 - i) 0)))
+
+pub padded_more : (ns bytes : List ℕ) (i x : ℕ) → bytes ≡ padded (map key_of (take i ns)) → i < length ns → length ns ≤ 64 → x ≡ key_of (get_or ns i 0) → set bytes i x ≡ padded (map key_of (take (i + 1) ns))
+padded_more ns bytes i x e h m k =
+    let l : length (map key_of (take i ns)) ≡ i = omega (arith, length-map (take i ns) key_of, length-take i ns) in
+    rw (e, k) (padded_push (map key_of (take i ns)) i (key_of (get_or ns i 0)) l (omega arith) ∙ ap padded (sym (map_more key_of ns i 0 h)))
+
 -- the end of the input
 module _ (s : Noted) (r : Reader) (list : List ℕ) (e : noted r list ≡ at_end s) where
   question_is : (text : List ℕ) → Heard text s → question_of text ≡ outcome (noted r list)
@@ -60,8 +72,8 @@ module _ (s : Noted) (r : Reader) (list : List ℕ) (e : noted r list ≡ at_end
   unfolding outcome
   finish_none n text h = rw (question_is text h, ne_eqb _ _ n)
 
-  pub finish_asked : (x : Limits) (n m : ℕ) (a b : ArrayVec ℕ) → r.line ≡ Done → n ≡ r.starts → m ≡ r.count → x ≡ limits_of (take 6 list) →
-      a.items ≡ map key_of (take (64 + n - 64) (drop 64 list)) → b.items ≡ map key_of (take (128 + m - 128) (drop 128 list)) →
+  pub finish_asked : (x : Limits) (n m : ℕ) (a b : List ℕ) → r.line ≡ Done → n ≡ r.starts → m ≡ r.count → x ≡ limits_of (take 6 list) →
+      a ≡ map key_of (take (64 + n - 64) (drop 64 list)) → b ≡ map key_of (take (128 + m - 128) (drop 128 list)) →
       Finished s (Some (record { limits = x; start = a; goal = b }))
   unfolding outcome
   finish_asked x n m a b l g k p q f text t =

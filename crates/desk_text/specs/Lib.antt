@@ -1,3 +1,4 @@
+pub mod Padded
 pub mod Grammar
 pub mod Question
 pub mod Passed

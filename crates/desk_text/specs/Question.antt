@@ -59,4 +59,4 @@ key_of n = n if ltb n 256 otherwise 255
 -- what the reader answers: the limits, and the key bytes of start and goal
 abbrev pub read_as : Option Asked → Option Question
 read_as None = None
-read_as (Some q) = Some (record { limits = limits_of q.limits; start = record { items = map key_of q.start }; goal = record { items = map key_of q.goal } })
+read_as (Some q) = Some (record { limits = limits_of q.limits; start = map key_of q.start; goal = map key_of q.goal })

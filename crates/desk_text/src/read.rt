@@ -5,7 +5,7 @@ ghost use Rattle.desk_text.specs.Question.{limits_of, key_of, question_of, read_
 ghost use Rattle.std.specs.Option.{ForSome};
 ghost use Rattle.desk_text.specs.Machine.{no_numbers};
 
-use arrayvec::ArrayVec;
+use std::marker::Model;
 
 // The first line: the six numbers of the planner's `SearchCfg` and `Allowances`. The desk's text stands on the costs alone, and those would put
 // the whole engine below it.
@@ -19,12 +19,45 @@ pub struct Limits {
     pub states_with: usize,
 }
 
+// The bytes of a line's keys, at most 64. The places behind them are 0, so that keys are equal where their fields are.
+#[derive(Clone, Copy, PartialEq, Eq)]
+pub struct Keys {
+    bytes: [u8; 64],
+    count: usize,
+}
+
+impl Model for Keys {
+    ghost use Rattle.std.specs.Prelude.{◌≡◌, ℕ, ◌≤◌, List, length, take};
+    ghost use Rattle.std.proofs.Common.{sym, arith, length-take-le};
+    ghost use Rattle.desk_text.specs.Padded.{padded};
+
+    ghost Value = { List ℕ };
+
+    ghost view = { λ k. take k.count k.bytes };
+
+    ghost invariant = { λ k. (k.count ≤ 64) × (length k.bytes ≡ 64) × (k.bytes ≡ padded (take k.count k.bytes)) };
+
+    ghost inverse = { λ ks. record { bytes = padded ks; count = length ks } };
+
+    ghost inverse_ok = { λ k h i. record { bytes = sym h.2 i; count = length-take-le k.count k.bytes (omega (arith, h.0, h.1)) i } };
+}
+
+impl Keys {
+    // The keys' bytes.
+    pub fn as_slice(&self) -> &[u8]
+        ensures value { result.now ≡ self.now }
+        ensures fits { length result.now ≤ 64 }
+    {
+        &self.bytes[..self.count]
+    }
+}
+
 // What the desk's input asks: the limits and the keys' bytes of start and goal.
-#[derive(PartialEq, Eq, Drop)]
+#[derive(Clone, Copy, PartialEq, Eq)]
 pub struct Question {
     pub limits: Limits,
-    pub start: ArrayVec<u8, 64>,
-    pub goal: ArrayVec<u8, 64>,
+    pub start: Keys,
+    pub goal: Keys,
 }
 
 // The line that is read; `Done` once three lines have ended, `Lost` if the input is unreadable whatever follows.
@@ -72,15 +105,18 @@ pub fn key_byte(n: usize) -> u8
 }
 
 // The keys' bytes.
-fn key_bytes(numbers: &[usize]) -> ArrayVec<u8, 64>
+fn key_bytes(numbers: &[usize]) -> Keys
     requires { length numbers.now ≤ 64 }
-    ensures { result.items ≡ map key_of numbers.now }
+    ensures { result ≡ map key_of numbers.now }
 {
-    let mut keys = ArrayVec::new();
-    for &n in numbers {
-        keys.push(key_byte(n));
+    let mut bytes = [0; 64];
+    for (i, &n) in numbers.iter().enumerate() {
+        bytes[i] = key_byte(n);
     }
-    keys
+    Keys {
+        bytes,
+        count: numbers.len(),
+    }
 }
 
 // How many digits `0` stand at the front.

@@ -1,7 +1,8 @@
--- The keys' bytes so far.
+-- The keys' bytes so far, and zeros behind them.
 use Rattle.std.proofs.Common.{◌≡◌, map, take}
+use Rattle.desk_text.specs.Padded.{padded}
 use Rattle.desk_text.specs.Question.{key_of}
 use Rattle.desk_text.proofs.read.key_bytes.Given as goal
 
-abbrev pub invariant-loop-n : goal.invariant-loop-n
-invariant-loop-n l = l.keys.items ≡ map key_of (take l.n-index l.numbers)
+abbrev pub invariant-loop-i : goal.invariant-loop-i
+invariant-loop-i l = l.bytes ≡ padded (map key_of (take l.i l.numbers))
