@@ -1,5 +1,5 @@
 -- Laws of the definitions of this crate that proofs go by.
-use Rattle.std.specs.Prelude.{ℕ, suc, ◌+◌, ◌*◌, ◌/◌, ◌%◌, ◌<◌, Bool, true, false, ◌||◌, List, [], ◌∷◌, ◌++◌, ◌≡◌, refl, cond, length, get_or, drop, eqb, ltb, Some}
+use Rattle.std.specs.Prelude.{ℕ, suc, ◌+◌, ◌*◌, ◌/◌, ◌%◌, ◌<◌, ◌≤◌, Bool, true, false, ◌||◌, List, [], ◌∷◌, ◌++◌, ◌≡◌, refl, cond, length, get_or, drop, eqb, ltb, Some}
 use Rattle.std.proofs.Common.{arith, eqb-true, ne_eqb, add-one, drop-cons}
 use Rattle.std.proofs.lemmas.Bool.{not-false}
 use Rattle.std.specs.List.{filter}
@@ -65,7 +65,6 @@ pub cost_append : (prices : List ℕ) (sum : Cost) (xs ys : List ℕ) → cost_f
 cost_append prices sum [] ys = refl
 cost_append prices sum (x ∷ xs) ys = cost_append prices (plus sum (price_of prices (decoded x))) xs ys
 
--- the same in the library's words
 -- the same in the library's words: a fold over the list
 pub any_over_fold : (limit : ℕ) (b : Bool) (l : List ℕ) → fold (λ over x. over || ltb limit x) b l ≡ (b || any_over limit l)
 any_over_fold limit b [] = or_false b
@@ -82,6 +81,10 @@ any_over_fold limit b (x ∷ xs) = any_over_fold limit (b || ltb limit x) xs ∙
 pub count_of_filter : (k : ℕ) (l : List ℕ) → count_of k l ≡ length (filter (λ x. eqb x k) l)
 count_of_filter k [] = refl
 count_of_filter k (x ∷ xs) = elim (eqb x k) as (λ b. (suc (count_of k xs) if b otherwise count_of k xs) ≡ length (cond b (x ∷ filter (λ y. eqb y k) xs) (filter (λ y. eqb y k) xs))) [ true ↦ rw (count_of_filter k xs) | false ↦ count_of_filter k xs ]
+
+-- a count on the way: n of the first i entries pass, and those behind them are still to come
+abbrev pub Counted : {A : Type 0} (p : A → Bool) (l : List A) (n i : ℕ) → Type 0
+Counted p l n i = (length (filter p l) ≡ n + length (filter p (drop i l))) × (n ≤ i)
 
 pub some_injective : {A : Type 0} (a b : A) → Some a ≡ Some b → a ≡ b
 some_injective a b e = cc

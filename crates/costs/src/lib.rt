@@ -230,7 +230,7 @@ pub fn count_of<T: PartialEq>(list: &[T], k: &T) -> usize
     n
 }
 
-// The same of a short list, in a byte: a sum of bytes takes an eighth of the time of a sum of lengths.
+// The same of a short list, counted in a byte: a vector holds eight times as many bytes as lengths.
 pub fn count_few<T: PartialEq>(list: &[T], k: &T) -> u8
     requires { length list.now ≤ 255 }
     ensures { result ≡ length (filter (λ x. T.eq x k.now) list.now) }
