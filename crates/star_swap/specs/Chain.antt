@@ -1,8 +1,9 @@
 -- The lists of slots by key, as the table of arcs holds them: what `pick` does to them.
-use Rattle.std.specs.Prelude.{◌≡◌, Bool, true, false, Option, Some, None, List, [], ◌∷◌, ℕ, zero, suc, ◌≤◌, ◌<◌, eqb, length, set, replicate}
+use Rattle.std.specs.Prelude.{◌≡◌, Bool, true, false, Option, Some, None, List, [], ◌∷◌, ℕ, ◌≤◌, ◌<◌, cond, eqb, length, get_or, set, replicate}
 use Rattle.std.proofs.Math.Path.{refl, subst⁻¹}
-use Rattle.std.proofs.Common.{sym, ap, ◌∙◌, arith, get_or-set_same, get_or-set_other}
+use Rattle.std.proofs.Common.{sym, ap, ◌∙◌, arith, ne_eqb, get_or-set_same, get_or-set_other}
 use Rattle.std.proofs.Math.Decide.{ℕ_discrete}
+use Rattle.std.proofs.lemmas.List.{get_or_default}
 use Rattle.star_swap.specs.Count.{Test, equal, unequal, test}
 use Rattle.star_swap.specs.Star.{at, Pick, nothing, arc, pick_if, pick, trail}
 use Rattle.star_swap.specs.declared.Arcs.{Arcs}
@@ -12,25 +13,31 @@ arcs_of head next = record { head = head; next = next }
 
 -- no slot yet
 abbrev pub no_arcs : Arcs
-no_arcs = arcs_of (replicate 64 0) (replicate 21 0)
+no_arcs = arcs_of (replicate 64 255) (replicate 21 255)
 
--- the slot that a byte of a table stands for: slots begin at 1, and 0 stands for none
+-- the slot that a byte of a table stands for: 255, which is no slot of a window, stands for none
 unfoldable pub slot_of : ℕ → Option ℕ
-slot_of zero = None
-slot_of (suc i) = Some (suc i)
+slot_of i = cond (eqb i 255) None (Some i)
 
-pub is_none : slot_of 0 ≡ None
+pub is_none : slot_of 255 ≡ None
 unfolding slot_of
 is_none = refl
 
-pub is_slot : (i : ℕ) → 0 < i → slot_of i ≡ Some i
+pub is_slot : (i : ℕ) → (i ≡ 255 → ⊥) → slot_of i ≡ Some i
 unfolding slot_of
-is_slot zero h = absurd (omega arith)
-is_slot (suc i) h = refl
+is_slot i ne = rw (ne_eqb i 255 ne)
+
+-- the byte at a place of a table: none stands behind its end
+abbrev pub byte : List ℕ → ℕ → ℕ
+byte l i = get_or l i 255
+
+-- within the table it is the number read there
+pub byte_at : (l : List ℕ) (i : ℕ) → i < length l → byte l i ≡ at l i
+byte_at l i h = get_or_default l i 255 0 h
 
 -- the slot at a place of a table, if one stands there
 abbrev pub slot : List ℕ → ℕ → Option ℕ
-slot l i = slot_of (at l i)
+slot l i = slot_of (byte l i)
 
 -- a list of slots below n in a table, by `next` from h on
 unfoldable pub Chain : ℕ → List ℕ → Option ℕ → List ℕ → Type 0
@@ -109,12 +116,12 @@ module _ (k : ℕ) (arcs : Arcs) (lt : k < 64) where
           absurd cc
 
   -- the slot in front goes
-  pub took_some : (i : ℕ) → length arcs.head ≡ 64 → slot arcs.head k ≡ Some i → Took k arcs (Some i) (arcs_of (set arcs.head k (at arcs.next i)) arcs.next)
+  pub took_some : (i : ℕ) → length arcs.head ≡ 64 → slot arcs.head k ≡ Some i → Took k arcs (Some i) (arcs_of (set arcs.head k (byte arcs.next i)) arcs.next)
   unfolding Chained Chain
   took_some i len e = record { each = λ n g R h. go n g R h (pick g k R) (pick_needs g k R) }
     where
       arcs' : Arcs
-      arcs' = arcs_of (set arcs.head k (at arcs.next i)) arcs.next
+      arcs' = arcs_of (set arcs.head k (byte arcs.next i)) arcs.next
 
       go : (n : ℕ) (g : ℕ → ℕ) (R : List ℕ) → Chained n g R arcs → (p : Pick) → Needs g k R p → Taking n g p (Some i) R arcs'
       go n g R h nothing m =
@@ -131,8 +138,8 @@ module _ (k : ℕ) (arcs : Arcs) (lt : k < 64) where
                 subst⁻¹
                 (λ (z : ℕ). Chain n arcs.next (slot arcs'.head z) (needing g z R'))
                 s
-                (rw (get_or-set_same arcs.head k (at arcs.next i) 0 (omega arith), x) q.2)
-            | no s ↦ rw (get_or-set_other arcs.head k k' (at arcs.next i) 0 s, ← m.1 k' s) (h k' lt')
+                (rw (get_or-set_same arcs.head k (byte arcs.next i) 255 (omega arith), x) q.2)
+            | no s ↦ rw (get_or-set_other arcs.head k k' (byte arcs.next i) 255 s, ← m.1 k' s) (h k' lt')
           ] in
           (y, q.1, each)
 

@@ -1,9 +1,9 @@
 -- Keys without an arc: their circuits are empty.
-use Rattle.std.specs.Prelude.{◌≡◌, refl, true, false, Option, Some, None, List, [], ◌∷◌, ◌++◌, Bool, not, ◌||◌, ℕ, zero, suc, ◌+◌, ◌*◌, ◌≤◌, ◌<◌, eqb, length}
+use Rattle.std.specs.Prelude.{◌≡◌, refl, true, false, Option, Some, None, List, [], ◌∷◌, ◌++◌, Bool, not, ◌||◌, ℕ, zero, suc, ◌+◌, ◌*◌, ◌≤◌, ◌<◌, cond, eqb, length}
 use Rattle.std.proofs.Common.{sym, add-one, arith, ◌∙◌}
 use Rattle.std.specs.List.{fold}
 use Rattle.std.specs.Option.{is_some}
-use borrow.Author.Tests.{not-true, ne_eqb}
+use borrow.Author.Tests.{not-true}
 use Rattle.costs.specs.Laws.{or_left}
 use Rattle.star_swap.specs.Tests.{or_right}
 use Rattle.star_swap.specs.Star.{at, Pick, nothing, arc, pick, trail, trail_step, trail_loop, circuits, star_swaps, codes}
@@ -20,21 +20,20 @@ none_is : (o : Option ℕ) → false ≡ is_some o → o ≡ None
 none_is None f = refl
 none_is (Some x) f = cc
 
--- a byte that is not 0 is a slot
-pub has_slot : (i : ℕ) → not (eqb i 0) ≡ is_some (slot_of i)
+-- a byte that is not 255 is a slot
+pub has_slot : (i : ℕ) → not (eqb i 255) ≡ is_some (slot_of i)
 unfolding slot_of
-has_slot zero = refl
-has_slot (suc i) = rw (ne_eqb (suc i) 0 (λ e. omega (arith, e)))
+has_slot i = elim (eqb i 255) as (λ b. not b ≡ is_some (cond b None (Some i))) [ true ↦ refl | false ↦ refl ]
 
-none_of : (l : List ℕ) (any : Bool) → fold (λ a s. a || not (eqb s 0)) any l ≡ false → (any ≡ false) × ((k : ℕ) → slot l k ≡ None)
+none_of : (l : List ℕ) (any : Bool) → fold (λ a s. a || not (eqb s 255)) any l ≡ false → (any ≡ false) × ((k : ℕ) → slot l k ≡ None)
 none_of [] any e = (e, λ k. is_none)
 none_of (s ∷ l) any e =
-    let r = none_of l (any || not (eqb s 0)) e in (
-      or_left any (not (eqb s 0)) r.0,
-      λ k. elim k as (λ k. slot (s ∷ l) k ≡ None) [ zero ↦ none_is (slot_of s) (sym (or_right any (not (eqb s 0)) r.0) ∙ has_slot s) | suc k ↦ r.1 k ],
+    let r = none_of l (any || not (eqb s 255)) e in (
+      or_left any (not (eqb s 255)) r.0,
+      λ k. elim k as (λ k. slot (s ∷ l) k ≡ None) [ zero ↦ none_is (slot_of s) (sym (or_right any (not (eqb s 255)) r.0) ∙ has_slot s) | suc k ↦ r.1 k ],
     )
 
-pub ended_of : (arcs : Arcs) (any : Bool) → any ≡ fold (λ a s. a || not (eqb s 0)) false arcs.head → not any ≡ true → Ended arcs
+pub ended_of : (arcs : Arcs) (any : Bool) → any ≡ fold (λ a s. a || not (eqb s 255)) false arcs.head → not any ≡ true → Ended arcs
 ended_of arcs any e h = record { each = λ k l. (none_of arcs.head false (sym e ∙ not-true any h)).1 k }
 
 -- a trail from a key without an arc

@@ -10,7 +10,7 @@ use Rattle.std.proofs.lemmas.List.{get_or-replicate}
 use Rattle.std.proofs.Math.Seq.{drop-cons}
 use Rattle.star_swap.specs.Count.{Test, equal, unequal, test}
 use Rattle.star_swap.specs.Star.{at, slot_if, misplaced}
-use Rattle.star_swap.specs.Chain.{is_none, is_slot, slot, arcs_of, no_arcs, Chain, Chained, need_if, needing, needs_take, needs_skip}
+use Rattle.star_swap.specs.Chain.{is_none, is_slot, byte, slot, arcs_of, no_arcs, Chain, Chained, need_if, needing, needs_take, needs_skip}
 use Rattle.star_swap.specs.declared.Arcs.{Arcs}
 
 -- every item is above p
@@ -47,35 +47,35 @@ chain_set : (n : ℕ) (next : List ℕ) (p v : ℕ) (h : Option ℕ) (l : List �
 unfolding Above Chain
 chain_set n next p v h [] a c = c
 chain_set n next p v h (i ∷ l) a c =
-    (c.0, c.1, rw (get_or-set_other next p i v 0 (omega (arith, a.0))) (chain_set n next p v (slot next i) l a.1 c.2))
+    (c.0, c.1, rw (get_or-set_other next p i v 255 (omega (arith, a.0))) (chain_set n next p v (slot next i) l a.1 c.2))
 
 -- one more slot, in front of its key's list
-link_one : (n : ℕ) (g : ℕ → ℕ) (R : List ℕ) (head next : List ℕ) (p : ℕ) → length head ≡ 64 → length next ≡ 21 → 0 < p → p < n → n ≤ 21 → g p < 64 → Above p R →
-    Chained n g R (arcs_of head next) → Chained n g (p ∷ R) (arcs_of (set head (g p) p) (set next p (at head (g p))))
+link_one : (n : ℕ) (g : ℕ → ℕ) (R : List ℕ) (head next : List ℕ) (p : ℕ) → length head ≡ 64 → length next ≡ 21 → p < n → n ≤ 21 → g p < 64 → Above p R →
+    Chained n g R (arcs_of head next) → Chained n g (p ∷ R) (arcs_of (set head (g p) p) (set next p (byte head (g p))))
 unfolding Chained
-link_one n g R head next p lh ln pos lt short low a h k kl =
+link_one n g R head next p lh ln lt short low a h k kl =
     elim (ℕ_discrete k (g p)) [
       | yes e ↦
           subst⁻¹
           (λ (z : ℕ). Chain n next' (slot head' z) (needing g z (p ∷ R)))
           e
-          (rw (get_or-set_same head (g p) p 0 (omega arith), is_slot p pos, needs_take g (g p) p R refl)
+          (rw (get_or-set_same head (g p) p 255 (omega arith), is_slot p (λ e. omega arith), needs_take g (g p) p R refl)
           (unfold Chain in (
             refl,
             lt,
-            rw (get_or-set_same next p (at head (g p)) 0 (omega arith))
-                (chain_set n next p (at head (g p)) (slot head (g p)) (needing g (g p) R) (above_needing g (g p) p R a) (h (g p) low)),
+            rw (get_or-set_same next p (byte head (g p)) 255 (omega arith))
+                (chain_set n next p (byte head (g p)) (slot head (g p)) (needing g (g p) R) (above_needing g (g p) p R a) (h (g p) low)),
           )))
       | no e ↦
-          rw (get_or-set_other head (g p) k p 0 e, needs_skip g k p R (λ q. e (sym q)))
-          (chain_set n next p (at head (g p)) (slot head k) (needing g k R) (above_needing g k p R a) (h k kl))
+          rw (get_or-set_other head (g p) k p 255 e, needs_skip g k p R (λ q. e (sym q)))
+          (chain_set n next p (byte head (g p)) (slot head k) (needing g k R) (above_needing g k p R a) (h k kl))
     ]
   where
     head' : List ℕ
     head' = set head (g p) p
 
     next' : List ℕ
-    next' = set next p (at head (g p))
+    next' = set next p (byte head (g p))
 
 -- the misplaced slots from p on
 unfoldable pub from : (cur goal : List ℕ) → ℕ → List ℕ
@@ -109,23 +109,23 @@ module _ (cur goal : List ℕ) (same : length cur ≡ length goal) where
     pub next_length : length arcs.next ≡ 21
     pub held : Chained (length cur) (at goal) (from cur goal p) arcs
 
-  pub linked_start : (p : ℕ) → p ≡ length cur → Linked p (no_arcs)
+  pub linked_start : (p : ℕ) → p ≡ length cur → Linked p no_arcs
   unfolding Chained needing Chain
   linked_start p e =
-      record { head_length = refl; next_length = refl; held = λ k lt. rw (e, from_end, get_or-replicate {A = ℕ} 64 k 0 0 lt) is_none }
+      record { head_length = refl; next_length = refl; held = λ k lt. rw (e, from_end, get_or-replicate {A = ℕ} 64 k 255 255 lt) is_none }
 
   module _ (short : length cur ≤ 21) (p : ℕ) (arcs : Arcs) (h : p < length cur) (l : Linked (suc p) arcs) where
     pub link_right : at cur p ≡ at goal p → Linked p arcs
     link_right e =
         record { head_length = l.head_length; next_length = l.next_length; held = rw (from_right p h e) l.held }
 
-    pub link_wrong : 0 < p → at goal p < 64 → (at cur p ≡ at goal p → ⊥) → Linked p (arcs_of (set arcs.head (at goal p) p) (set arcs.next p (at arcs.head (at goal p))))
-    link_wrong pos low ne =
+    pub link_wrong : at goal p < 64 → (at cur p ≡ at goal p → ⊥) → Linked p (arcs_of (set arcs.head (at goal p) p) (set arcs.next p (byte arcs.head (at goal p))))
+    link_wrong low ne =
         record {
           head_length = length-set arcs.head (at goal p) p ∙ l.head_length;
-          next_length = length-set arcs.next p (at arcs.head (at goal p)) ∙ l.next_length;
+          next_length = length-set arcs.next p (byte arcs.head (at goal p)) ∙ l.next_length;
           held =
               rw (from_wrong p h ne)
-              (link_one (length cur) (at goal) (from cur goal (suc p)) arcs.head arcs.next p l.head_length l.next_length pos h short low
+              (link_one (length cur) (at goal) (from cur goal (suc p)) arcs.head arcs.next p l.head_length l.next_length h short low
               (unfold from in above_misplaced p (drop (suc p) cur) (drop (suc p) goal)) l.held);
         }

@@ -5,7 +5,7 @@ use Rattle.std.proofs.Math.Seq.{drop-set-lt}
 use Rattle.star_swap.specs.Star.{at}
 use Rattle.star_swap.specs.Main.{Routable}
 use Rattle.star_swap.specs.Link.{Linked, linked_start, link_right, link_wrong}
-use Rattle.star_swap.specs.Chain.{arcs_of, no_arcs}
+use Rattle.star_swap.specs.Chain.{byte, arcs_of, no_arcs}
 use Rattle.star_swap.specs.declared.Arcs.{Arcs}
 
 -- numbers stand over the places of a list from the place start on, and the other places are as they were; r is the place behind the last
@@ -71,6 +71,6 @@ module _ (cur goal : List ℕ) where
     pub linked_right : at cur (pos - 1) ≡ at goal (pos - 1) → LinkedAt cur goal (pos - 1) arcs
     linked_right e = record { linked = λ same. link_right cur goal same p.short (pos - 1) arcs (omega arith) (before same) e }
 
-    pub linked_wrong : 0 < pos - 1 → (at cur (pos - 1) ≡ at goal (pos - 1) → ⊥) →
-        LinkedAt cur goal (pos - 1) (arcs_of (set arcs.head (at goal (pos - 1)) (pos - 1)) (set arcs.next (pos - 1) (at arcs.head (at goal (pos - 1)))))
-    linked_wrong on ne = record { linked = λ same. link_wrong cur goal same p.short (pos - 1) arcs (omega arith) (before same) on goal_key ne }
+    pub linked_wrong : (at cur (pos - 1) ≡ at goal (pos - 1) → ⊥) →
+        LinkedAt cur goal (pos - 1) (arcs_of (set arcs.head (at goal (pos - 1)) (pos - 1)) (set arcs.next (pos - 1) (byte arcs.head (at goal (pos - 1)))))
+    linked_wrong ne = record { linked = λ same. link_wrong cur goal same p.short (pos - 1) arcs (omega arith) (before same) goal_key ne }

@@ -15,8 +15,11 @@ ghost use Rattle.star_swap.specs.Check.{Counts};
 use arrayvec::ArrayVec;
 use costs::{Refusal, Step};
 
-// The misplaced slots by the key that each needs, rising: the first of each key, and behind each slot the next of its key; 0 for none, since slots
-// begin at 1. Bytes: an Option takes two, and the test whether any is left is then no vector.
+// In place of a slot, where there is none: no window has a slot 255.
+const NO_ARC: u8 = 255;
+
+// The misplaced slots by the key that each needs, rising: the first of each key, and behind each slot the next of its key.
+// Bytes: an Option takes two, and the test whether any is left is then no vector.
 #[derive(Drop)]
 struct Arcs {
     head: [u8; 64],
@@ -46,7 +49,8 @@ impl Arcs {
         ensures { Took key self.old result self.new }
     {
         let slot = self.head[key as usize];
-        if slot == 0 {
+        // A byte above the last slot is `NO_ARC`; a comparison with a small number is a shorter instruction.
+        if 20 < slot {
             return None;
         }
         self.head[key as usize] = self.next[slot as usize];
@@ -86,7 +90,10 @@ impl Arcs {
     fn is_empty(&self) -> bool
         ensures { result ≡ true → Ended self.now }
     {
-        !self.head.iter().fold(false, |any, &slot| any | (slot != 0))
+        !self
+            .head
+            .iter()
+            .fold(false, |any, &slot| any | (slot != NO_ARC))
     }
 
     // Whether a slot needs the key, below 64 as in `take`.
@@ -94,7 +101,7 @@ impl Arcs {
         requires { key < 64 }
         ensures { result ≡ is_some (slot self.now.head key) }
     {
-        self.head[key as usize] != 0
+        self.head[key as usize] != NO_ARC
     }
 }
 
@@ -129,8 +136,8 @@ pub fn star(cur: &[u8], goal: &[u8], start: usize, steps: &mut [u16]) -> usize
         return start;
     };
     let mut arcs = Arcs {
-        head: [0; 64],
-        next: [0; 21],
+        head: [NO_ARC; 64],
+        next: [NO_ARC; 21],
     };
     arcs.link(cur, goal);
     let mut slots = [0; 20];

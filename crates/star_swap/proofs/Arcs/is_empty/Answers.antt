@@ -9,4 +9,4 @@ use Rattle.star_swap.proofs.Arcs.is_empty.Goals as goal
 pub returns : goal.returns
 returns c =
     ended_of c.args.self.now c.fold.result
-    (fold_from_yields_List _ (λ a s. a || not (eqb s 0)) false c.fold.result c.fold.ensures.ran (YieldsList-from_slice c.args.self.now.head cc) (λ a x r q k. search (rules, tests)))
+    (fold_from_yields_List _ (λ a s. a || not (eqb s 255)) false c.fold.result c.fold.ensures.ran (YieldsList-from_slice c.args.self.now.head cc) (λ a x r q k. search (rules, tests)))
